@@ -1,0 +1,4 @@
+pub mod Cutting
+pub mod Fronts
+pub mod Kept
+pub mod Surveying

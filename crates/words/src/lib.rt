@@ -1,0 +1,8 @@
+// The reader of words: cuts a model text into names, kept words and signs.
+mod bytes;
+pub mod cursor;
+pub mod kind;
+mod nesting;
+pub mod refusal;
+mod spelling;
+pub mod survey;
