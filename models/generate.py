@@ -12,7 +12,7 @@ field is still null, so that few cells are made however often a method runs.
 import sys
 
 CLASSES, RELATIONSHIPS, FIELDS, METHODS, LOCALS, NODES = 31, 31, 128, 64, 10, 2040
-SEED = 508     # one whose run meets every rule of execution
+SEED = 296     # one whose run meets every rule of execution
 
 
 class Dice:
