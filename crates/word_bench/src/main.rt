@@ -1,9 +1,13 @@
 // Measures how fast a text is surveyed: `word_bench run`. Without that word it prints how it is run, and measures nothing.
+ghost use mathlib.Core.Path.{_≡_};
+ghost use Rattle.std.specs.Of.Vec.{vec-len};
+ghost use Rattle.std.specs.Vec.{made};
 use std::alloc::AllocError;
 use std::alloc::Global;
 use std::env;
 use std::error::AnyError;
 use std::time::Instant;
+use words::refusal::Unreadable;
 use words::survey::survey;
 
 // Each round surveys so many bytes, and the fastest round of a size counts.
@@ -37,7 +41,9 @@ class Mill extends Object {
 ";
 
 // A text of so many bytes.
-fn text_of(heap: Global, size: u32) -> Result<Vec<u8>, AllocError> {
+fn text_of(heap: Global, size: u32) -> Result<Vec<u8>, AllocError>
+    ensures { λ r. ⌜ made r (λ text. vec-len text ≡ size) ⌝ }
+{
     let mut text = Vec::new(heap);
     for i in 0..size {
         text.push(MODEL[i as usize % MODEL.len()])?;
@@ -45,19 +51,17 @@ fn text_of(heap: Global, size: u32) -> Result<Vec<u8>, AllocError> {
     Ok(text)
 }
 
-// How many words all passes saw together. Each pass looks at another text, whose last byte differs, so that none can
+// How many words all passes see together. Each pass looks at another text, whose last byte differs, so that none can
 // be left out.
-fn words_seen(text: &mut Vec<u8>, passes: u32) -> usize {
+fn words_seen(text: &mut Vec<u8>, passes: u32) -> Result<usize, Unreadable> {
     let mut seen: usize = 0;
     for pass in 0..passes {
         if let Some(last) = text.last_mut() {
             *last = if pass % 2 == 0 { b' ' } else { b'\n' };
         }
-        if let Ok(extent) = survey(text.as_slice()) {
-            seen = seen.wrapping_add(extent.words);
-        }
+        seen = seen.wrapping_add(survey(text.as_slice())?.words);
     }
-    seen
+    Ok(seen)
 }
 
 // The seconds of the fastest round.
@@ -67,11 +71,10 @@ fn fastest(rt: &LibcRuntime, text: &mut Vec<u8>, passes: u32) -> Result<f64, Any
         let start = Instant::now(rt)?;
         let seen = words_seen(text, passes);
         let seconds = start.elapsed(rt)?.as_secs_f64();
-        if seen == 0 {
-            return Err("a text of no words".into());
-        }
-        if seconds < best {
-            best = seconds;
+        match seen {
+            Ok(0) => return Err("a text of no words".into()),
+            Ok(_) => best = best.min(seconds),
+            Err(_) => return Err("a text that is refused".into()),
         }
     }
     Ok(best)
@@ -87,7 +90,7 @@ fn measure(rt: &LibcRuntime) -> Result<(), AnyError> {
         let rate = BYTES_OF_A_ROUND as f64 / seconds / 1e6;
         println!(
             rt,
-            "{kib:>2} KiB: {micros:>7.2} us a pass, {rate:>6.1} million bytes a second"
+            "{kib:>2} KiB: {micros:>6.2} us a pass, {rate:>6.1} million bytes a second"
         )?;
     }
     Ok(())

@@ -1,8 +1,10 @@
 -- How bytes are spelled in plain ASCII.
 use mathlib.Core.Bool.{Bool, cond, _&&_}
-use mathlib.Core.List.{List, [], _∷_}
+use mathlib.Core.List.{List, [], _∷_, _++_}
+use mathlib.Core.Path.{_≡_}
 use Prim.Native.Nat.{ℕ, _+_, _-_, _*_}
 use lib.Dec.{leb, eqb}
+use lib.ListN.{drop}
 use Rattle.std.specs.declared.option.Option.{Option}
 use Rattle.std.specs.declared.option.Option.the-variants.{Some, None}
 use Rattle.word_trials.specs.declared.spelled.Spelled.{Spelled}
@@ -33,3 +35,8 @@ escaped (h ∷ l ∷ s) = escape (hex-value h) (hex-value l)
 abbrev pub first-of : List ℕ → Option Spelled
 first-of [] = None
 first-of (b ∷ s) = cond (eqb b 92) (escaped s) (Some (spells b 1))
+
+-- a text, a piece, and the text once the bytes that the piece spells are added to it, the first one first
+pub data Adds : List ℕ → List ℕ → List ℕ → Type 0 where
+  none : {text : List ℕ} → Adds text [] text
+  one : {text piece after : List ℕ} {s : Spelled} → first-of piece ≡ Some s → Adds (text ++ s .byte ∷ []) (drop (s .length) piece) after → Adds text piece after

@@ -1,6 +1,12 @@
 // Surveys the text that each line of standard input spells, and prints for each a line: the refusal's number and place,
 // or `ok`, how many words there are and how deep the brackets go. tools/word_cases.py writes the lines and what is
 // expected of them.
+ghost use mathlib.Core.Path.{_≡_};
+ghost use Rattle.std.specs.Of.String.{string-bytes};
+ghost use Rattle.std.specs.Vec.{made};
+ghost use Rattle.word_trials.specs.Verdicts.{line-of};
+ghost use Rattle.words.specs.Surveys.{surveyed};
+use std::alloc::AllocError;
 use std::alloc::Global;
 use std::error::AnyError;
 use std::io::BufRead;
@@ -11,27 +17,29 @@ mod spelled;
 
 use spelled::decode;
 
-fn judge(heap: Global, line: &str) -> Result<String, AnyError> {
-    let text = decode(heap, line)?;
-    let verdict = match survey(text.as_slice()) {
+// The line that is printed of a text.
+fn verdict(heap: Global, text: &[u8]) -> Result<String, AllocError>
+    ensures { λ r. ⌜ made r (λ line. string-bytes line ≡ line-of (surveyed (now (text .entry)))) ⌝ }
+{
+    match survey(text) {
         Ok(extent) => {
             let words = extent.words;
             let depth = extent.depth;
-            format!(heap, "ok {words} {depth}")?
+            format!(heap, "ok {words} {depth}")
         }
         Err(refusal) => {
             let number = refusal.number();
             let place = refusal.place();
-            format!(heap, "{number} {place}")?
+            format!(heap, "{number} {place}")
         }
-    };
-    Ok(verdict)
+    }
 }
 
 fn judge_all(rt: &LibcRuntime) -> Result<(), AnyError> {
     let heap = rt.alloc();
     for line in BufReader::new(rt.stdin()).lines(heap) {
-        rt.println(judge(heap, line?.as_str())?)?;
+        let text = decode(heap, line?.as_str())?;
+        rt.println(verdict(heap, text.as_slice())?)?;
     }
     Ok(())
 }

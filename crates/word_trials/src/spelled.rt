@@ -3,8 +3,10 @@
 ghost use mathlib.Core.Path.{_≡_};
 ghost use Prim.Native.Nat.{_<_, _≤_};
 ghost use lib.ListN.{length};
+ghost use Rattle.std.specs.Of.Vec.{vec-items};
 ghost use Rattle.std.specs.Slices.{found};
-ghost use Rattle.word_trials.specs.Spelling.{hex-value, first-of};
+ghost use Rattle.std.specs.Vec.{made};
+ghost use Rattle.word_trials.specs.Spelling.{hex-value, first-of, Adds};
 use std::alloc::Global;
 use std::error::AnyError;
 
@@ -44,7 +46,9 @@ fn first_byte(piece: &[u8]) -> Option<Spelled>
 }
 
 // Adds the bytes that a piece spells to a text.
-fn add_piece(text: &mut Vec<u8>, piece: &[u8]) -> Result<(), AnyError> {
+fn add_piece(text: &mut Vec<u8>, piece: &[u8]) -> Result<(), AnyError>
+    ensures { λ r. ⌜ made r (λ _. Adds (vec-items (now (text .entry))) (now (piece .entry)) (vec-items (now (text .exit)))) ⌝ }
+{
     let mut at = 0;
     while at < piece.len() {
         let Some(spelled) = first_byte(&piece[at..]) else {
