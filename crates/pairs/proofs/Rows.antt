@@ -136,6 +136,13 @@ none-less (a ∷ us) vs row r f t h =
     let p = none-parts (joins a r f t) (a .instance) (inForce (us ++ row ∷ vs) r f t) h in
     ap (λ b. cond b (Some (a .instance)) (inForce (us ++ vs) r f t)) (p .0) ∙ none-less us vs row r f t (p .1)
 
+pub none-left : (us vs : List Row) (r f t : ℕ) → inForce (us ++ vs) r f t ≡ None → inForce us r f t ≡ None
+unfolding inForce
+none-left [] vs r f t h = refl
+none-left (a ∷ us) vs r f t h =
+    let p = none-parts (joins a r f t) (a .instance) (inForce (us ++ vs) r f t) h in
+    ap (λ b. cond b (Some (a .instance)) (inForce us r f t)) (p .0) ∙ none-left us vs r f t (p .1)
+
 not-joined : (us vs : List Row) (row : Row) (r f t : ℕ) → inForce (us ++ row ∷ vs) r f t ≡ None → joins row r f t ≡ false
 unfolding inForce
 not-joined [] vs row r f t h = none-parts (joins row r f t) (row .instance) (inForce vs r f t) h .0
