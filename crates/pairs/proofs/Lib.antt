@@ -1,5 +1,5 @@
 pub mod Rows
-pub mod Picks
+pub mod Gathering
 pub mod Places
 pub mod Found
 pub mod Probing

@@ -14,6 +14,8 @@ use Rattle.std.specs.Options.{isSome}
 use Rattle.pairs.specs.declared.row.Row.{Row}
 use Rattle.pairs.specs.declared.row.PutRefusal.{PutRefusal}
 use Rattle.pairs.specs.declared.row.PutRefusal.the-variants.{BadRelationship, BadCell, Present, Full}
+use Rattle.pairs.specs.declared.row.Asked.{Asked}
+use Rattle.pairs.specs.declared.row.Asked.the-variants.{To, Instance}
 
 -- the same relationship, the same from cell and the same to cell
 abbrev pub alike : ℕ → ℕ → ℕ → ℕ → ℕ → ℕ → Bool
@@ -22,6 +24,11 @@ alike relationship from to r f t = eqb relationship r && (eqb from f && eqb to t
 -- the row of a relationship from a cell
 abbrev pub leads : Row → ℕ → ℕ → Bool
 leads row r f = eqb (row .relationship) r && eqb (row .from) f
+
+-- the cell of a row that is asked for
+abbrev pub told : Asked → Row → ℕ
+told To row = row .to
+told Instance row = row .instance
 
 -- the instance in force for a relationship, a from cell and a to cell
 unfoldable pub inForce : List Row → ℕ → ℕ → ℕ → Option ℕ

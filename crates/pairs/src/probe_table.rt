@@ -5,10 +5,12 @@ ghost use mathlib.Core.Bool.{true};
 ghost use mathlib.Core.List.{List, []};
 ghost use lib.ListN.{length};
 ghost use Rattle.std.specs.declared.option.Option.the-variants.{Some, None};
+ghost use Rattle.pairs.specs.Gathering.{Gathered};
 ghost use Rattle.pairs.specs.Rows.{apart, allSmall, inForce, Small};
 ghost use Rattle.pairs.specs.Changes.{Added};
 ghost use Rattle.pairs.specs.Probing.{held, start, along, Reached, Located, Open, Same};
 use crate::place::Place;
+use crate::row::Asked;
 use crate::row::PutRefusal;
 use crate::row::Row;
 use crate::row::judged;
@@ -135,9 +137,24 @@ impl ProbeTable {
         ensures unworn { λ _. ⌜ now (self .exit) .spent < 384 ⌝ }
     {
         if self.spent >= WORN {
-            let fresh = self.relaid();
-            *self = fresh;
+            *self = self.relaid();
         }
+    }
+
+    // The cells asked for of the rows of a relationship from a cell.
+    fn gathered(&self, relationship: u8, from: u8, asked: Asked) -> CellSet
+        ensures { λ r. ⌜ Gathered asked relationship from (held (now (self .entry) .places)) r ⌝ }
+    {
+        let mut found = CellSet::empty();
+        for p in 0..PLACES {
+            let here = self.places[p];
+            if let Place::Held(row) = here {
+                if row.leaves(relationship, from) {
+                    found = found.with(row.told(asked));
+                }
+            }
+        }
+        found
     }
 }
 
@@ -147,8 +164,7 @@ pub impl PairTable for ProbeTable as ProbeTablePairs {
     ghost limit = { λ t. 256 };
 
     fn clear(&mut self) {
-        let fresh = ProbeTable::new();
-        *self = fresh;
+        *self = ProbeTable::new();
     }
 
     fn put(&mut self, row: Row) -> Result<(), PutRefusal> {
@@ -176,29 +192,11 @@ pub impl PairTable for ProbeTable as ProbeTablePairs {
     }
 
     fn to_cells(&self, relationship: u8, from: u8) -> CellSet {
-        let mut found = CellSet::empty();
-        for p in 0..PLACES {
-            let here = self.places[p];
-            if let Place::Held(row) = here {
-                if row.leaves(relationship, from) {
-                    found = found.with(row.to);
-                }
-            }
-        }
-        found
+        self.gathered(relationship, from, Asked::To)
     }
 
     fn instances(&self, relationship: u8, from: u8) -> CellSet {
-        let mut found = CellSet::empty();
-        for p in 0..PLACES {
-            let here = self.places[p];
-            if let Place::Held(row) = here {
-                if row.leaves(relationship, from) {
-                    found = found.with(row.instance);
-                }
-            }
-        }
-        found
+        self.gathered(relationship, from, Asked::Instance)
     }
 
     fn count(&self) -> u16 {

@@ -3,7 +3,7 @@ ghost use Prim.Native.Nat.{ℕ, _≤_, _<_};
 ghost use mathlib.Core.Path.{_≡_};
 ghost use mathlib.Core.Bool.{Bool, true, false};
 ghost use Rattle.std.specs.declared.option.Option.the-variants.{Some, None};
-ghost use Rattle.pairs.specs.Rows.{alike, leads, Judged};
+ghost use Rattle.pairs.specs.Rows.{alike, leads, told, Judged};
 
 // Cell `from` stands in the relationship to cell `to`, by the instance.
 #[derive(Clone, Copy, PartialEq, Eq, Debug)]
@@ -27,6 +27,13 @@ pub enum PutRefusal {
     Full,
 }
 
+// Which cell a question gathers from rows.
+#[derive(Clone, Copy)]
+pub(crate) enum Asked {
+    To,
+    Instance,
+}
+
 impl Row {
     // Whether this is the row of that relationship and those cells.
     pub(crate) fn joins(self, relationship: u8, from: u8, to: u8) -> bool
@@ -40,6 +47,16 @@ impl Row {
         ensures { λ r. ⌜ r ≡ leads self relationship from ⌝ }
     {
         self.relationship == relationship && self.from == from
+    }
+
+    // The cell that is asked for.
+    pub(crate) fn told(self, asked: Asked) -> u8
+        ensures { λ r. ⌜ r ≡ told asked self ⌝ }
+    {
+        match asked {
+            Asked::To => self.to,
+            Asked::Instance => self.instance,
+        }
     }
 }
 

@@ -4,7 +4,9 @@ ghost use mathlib.Core.Path.{_≡_};
 ghost use mathlib.Core.Bool.{true};
 ghost use mathlib.Core.List.{List, []};
 ghost use lib.ListN.{length, take, getD};
+ghost use Rattle.pairs.specs.Gathering.{Gathered};
 ghost use Rattle.pairs.specs.Rows.{apart, allSmall, Placed};
+use crate::row::Asked;
 use crate::row::PutRefusal;
 use crate::row::Row;
 use crate::row::judged;
@@ -56,6 +58,20 @@ impl RowList {
         }
         None
     }
+
+    // The cells asked for of the rows of a relationship from a cell.
+    fn gathered(&self, relationship: u8, from: u8, asked: Asked) -> CellSet
+        ensures { λ r. ⌜ Gathered asked relationship from (take (now (self .entry) .count) (now (self .entry) .items)) r ⌝ }
+    {
+        let mut found = CellSet::empty();
+        for k in 0..self.count {
+            let row = self.items[k];
+            if row.leaves(relationship, from) {
+                found = found.with(row.told(asked));
+            }
+        }
+        found
+    }
 }
 
 pub impl PairTable for RowList as RowListTable {
@@ -95,25 +111,11 @@ pub impl PairTable for RowList as RowListTable {
     }
 
     fn to_cells(&self, relationship: u8, from: u8) -> CellSet {
-        let mut found = CellSet::empty();
-        for k in 0..self.count {
-            let row = self.items[k];
-            if row.leaves(relationship, from) {
-                found = found.with(row.to);
-            }
-        }
-        found
+        self.gathered(relationship, from, Asked::To)
     }
 
     fn instances(&self, relationship: u8, from: u8) -> CellSet {
-        let mut found = CellSet::empty();
-        for k in 0..self.count {
-            let row = self.items[k];
-            if row.leaves(relationship, from) {
-                found = found.with(row.instance);
-            }
-        }
-        found
+        self.gathered(relationship, from, Asked::Instance)
     }
 
     fn count(&self) -> u16 {

@@ -5,7 +5,7 @@ use Rattle.pairs.proofs.probe_table.ProbeTable.freshen.Needs as need
 
 pub returns-then-self-ge-WORN : need.returns-then-self-ge-WORN
 returns-then-self-ge-WORN c =
-    let made = c .relaid-fresh in
+    let made = c .relaid in
     record {
       same = made .ensures .same;
       unworn = omega (arith, made .ensures .unspent, made .ensures .same .count, made .result .counted, c .args .self .now .counted);

@@ -1,7 +1,0 @@
-use lib.ListN.{take}
-use Rattle.pairs.specs.Probing.{held}
-use Rattle.pairs.proofs.Picks.{Picked}
-use Rattle.pairs.proofs.probe_table.ProbeTablePairs.to_cells.Given as given
-
-abbrev pub Inv-loop-p : given.InvT-loop-p
-Inv-loop-p l = Picked (λ row. row .to) (l .relationship) (l .from) (held (take (l .p) (l .self .places))) (l .found)

@@ -1,6 +1,0 @@
-use lib.ListN.{take}
-use Rattle.pairs.proofs.Picks.{Picked}
-use Rattle.pairs.proofs.row_list.RowListTable.instances.Given as given
-
-abbrev pub Inv-loop-k : given.InvT-loop-k
-Inv-loop-k l = Picked (λ row. row .instance) (l .relationship) (l .from) (take (l .k) (l .self .items)) (l .found)
