@@ -1,5 +1,4 @@
 pub mod Rows
 pub mod Gathering
-pub mod Places
+pub mod Changed
 pub mod Found
-pub mod Probing

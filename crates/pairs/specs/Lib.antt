@@ -1,4 +1,3 @@
 pub mod Rows
 pub mod Changes
 pub mod Gathering
-pub mod Probing

@@ -5,7 +5,6 @@ use mathlib.Core.Bool.{Bool, true, false, cond, not, _&&_}
 use mathlib.Core.List.{List, [], _∷_}
 use mathlib.Core.Logic.{_⊎_}
 use lib.Dec.{eqb, leb}
-use lib.ListN.{length, getD}
 use Rattle.std.specs.declared.option.Option.{Option}
 use Rattle.std.specs.declared.option.Option.the-variants.{Some, None}
 use Rattle.std.specs.declared.result.Result.{Result}
@@ -64,12 +63,3 @@ Judged row present full (Err BadRelationship) = 31 < row .relationship
 Judged row present full (Err BadCell) = (row .relationship ≤ 31) × ((127 < row .from) ⊎ ((127 < row .to) ⊎ (127 < row .instance)))
 Judged row present full (Err (Present i)) = Small row × (present ≡ Some i)
 Judged row present full (Err Full) = Small row × (present ≡ None) × (full ≡ true)
-
--- the row at a place of a list
-abbrev pub rowAt : List Row → ℕ → Row
-rowAt rows p = getD rows p (record { relationship = 0; from = 0; to = 0; instance = 0 })
-
--- where a list has the row of a relationship and two cells, if anywhere
-abbrev pub Placed : List Row → ℕ → ℕ → ℕ → Option ℕ → Type 0
-Placed rows r f t None = inForce rows r f t ≡ None
-Placed rows r f t (Some p) = (p < length rows) × (alike (rowAt rows p .relationship) (rowAt rows p .from) (rowAt rows p .to) r f t ≡ true)

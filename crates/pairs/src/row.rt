@@ -29,28 +29,28 @@ pub enum PutRefusal {
 
 // Which cell a question gathers from rows.
 #[derive(Clone, Copy)]
-pub(crate) enum Asked {
+pub enum Asked {
     To,
     Instance,
 }
 
 impl Row {
     // Whether this is the row of that relationship and those cells.
-    pub(crate) fn joins(self, relationship: u8, from: u8, to: u8) -> bool
+    pub fn joins(self, relationship: u8, from: u8, to: u8) -> bool
         ensures { λ r. ⌜ r ≡ alike (self .relationship) (self .from) (self .to) relationship from to ⌝ }
     {
-        self.relationship == relationship && self.from == from && self.to == to
+        self.leaves(relationship, from) && self.to == to
     }
 
     // Whether this is a row of that relationship from that cell.
-    pub(crate) fn leaves(self, relationship: u8, from: u8) -> bool
+    pub fn leaves(self, relationship: u8, from: u8) -> bool
         ensures { λ r. ⌜ r ≡ leads self relationship from ⌝ }
     {
         self.relationship == relationship && self.from == from
     }
 
     // The cell that is asked for.
-    pub(crate) fn told(self, asked: Asked) -> u8
+    pub fn told(self, asked: Asked) -> u8
         ensures { λ r. ⌜ r ≡ told asked self ⌝ }
     {
         match asked {
@@ -61,7 +61,7 @@ impl Row {
 }
 
 // Whether a table may put the row in: `present` is the instance that its relationship and cells have already.
-pub(crate) fn judged(row: Row, present: Option<u8>, full: bool) -> Result<(), PutRefusal>
+pub fn judged(row: Row, present: Option<u8>, full: bool) -> Result<(), PutRefusal>
     ensures { λ r. ⌜ Judged row present full r ⌝ }
 {
     if row.relationship > 31 {

@@ -8,11 +8,11 @@ mod speed;
 mod trial;
 
 use limits::limits;
-use pairs::probe_table::ProbeTable;
-use pairs::probe_table::ProbeTablePairs;
-use pairs::row_list::RowList;
-use pairs::row_list::RowListTable;
 use pairs::table::PairTable;
+use probe_table::ProbeTable;
+use probe_table::ProbeTablePairs;
+use row_list::RowList;
+use row_list::RowListTable;
 use sets::sets;
 use speed::speeds;
 use std::env;

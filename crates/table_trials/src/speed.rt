@@ -5,7 +5,7 @@ use pairs::table::PairTable;
 use std::error::AnyError;
 use std::time::Instant;
 
-const CALLS: u32 = 200_000;
+const CALLS: u32 = 1_000_000;
 
 fn random_row(dice: &mut Dice) -> Row {
     Row {
@@ -67,24 +67,33 @@ fn puts<P: PairTable>(
     Ok(rate(calls, took.as_micros()))
 }
 
+// A table of so many rows; a worn one has seen a million puts and drops, the last row coming after them.
+fn prepared<P: PairTable>(
+    rt: &LibcRuntime,
+    table: &mut P,
+    dice: &mut Dice,
+    rows: u16,
+    worn: bool,
+) -> Result<(), AnyError> {
+    table.clear();
+    if worn {
+        fill(table, dice, rows.saturating_sub(1));
+        puts(rt, table, dice, 1_000_000)?;
+    }
+    fill(table, dice, rows);
+    Ok(())
+}
+
 // Prints the speeds at 0, 128 and 256 rows, and again after a million puts and drops.
 pub fn speeds<P: PairTable>(rt: &LibcRuntime, name: &str, table: &mut P) -> Result<(), AnyError> {
     let mut dice = Dice::new(88172645463325252);
-    for worn in 0..2u8 {
+    for worn in [false, true] {
         for rows in [0u16, 128, 256] {
-            table.clear();
-            fill(table, &mut dice, rows);
-            if worn > 0 {
-                if rows == 256 {
-                    let row = random_row(&mut dice);
-                    let _ = table.drop_row(row.relationship, row.from, row.to);
-                }
-                puts(rt, table, &mut dice, 1_000_000)?;
-            }
+            prepared(rt, table, &mut dice, rows, worn)?;
             let find = finds(rt, table, &mut dice)?;
             let put = puts(rt, table, &mut dice, CALLS)?;
             let count = table.count();
-            let state = if worn > 0 {
+            let state = if worn {
                 "after a million puts and drops"
             } else {
                 "fresh"

@@ -1,6 +1,0 @@
-use Rattle.pairs.specs.Probing.{held}
-use Rattle.pairs.proofs.Gathering.{instances-gathered}
-use Rattle.pairs.proofs.probe_table.ProbeTablePairs.instances.Needs as need
-
-pub returns : need.returns
-returns c = instances-gathered (c .args .relationship) (c .args .from) (held (c .args .self .now .places)) (c .gathered .result) (c .args .self .now .differ) (c .gathered .ensures)
