@@ -17,7 +17,7 @@ use Rattle.pairs.specs.declared.row.Row.{Row}
 use Rattle.probe_table.specs.declared.place.Place.{Place}
 use Rattle.probe_table.specs.declared.place.Place.the-variants.{Free, Dropped, Held}
 use Rattle.pairs.specs.Rows.{alike, inForce, apart, small, allSmall, Small}
-use Rattle.probe_table.specs.Probing.{held, isFree, isHeld, holds, placeAt, start, along, Reached, Open, Same}
+use Rattle.probe_table.specs.Probing.{held, used, isFree, isHeld, holds, placeAt, start, along, Reached, Open, Same}
 use Rattle.pairs.specs.Changes.{Added}
 use Rattle.pairs.proofs.Rows.{joins, placeOf, alike-parts, alike-self, in-force-nil, in-force-cons, in-force-here, in-force-more, all-small-more, apart-less, small-row, none-left}
 use Rattle.pairs.proofs.Changed.{Grown, Gone, grown, gone}
@@ -185,6 +185,31 @@ free-at (suc n) (suc p) = free-at n p
 pub reached-free : (n : ℕ) → Reached (replicate n Free)
 reached-free n w h =
     absurd (both-ways _ (ap (λ x. holds x (w .relationship) (w .from) (w .to)) (free-at n (along (w .relationship) (w .from) (w .to) (w .step)))) h)
+
+-- ---- how many places are used
+
+pub used-free : (n : ℕ) → used (replicate n Free) ≡ 0
+unfolding used
+used-free zero = refl
+used-free (suc n) = omega (arith, used-free n)
+
+one-more : (x : Place) → cond (isFree x) 0 1 ≤ 1
+one-more Free = omega arith
+one-more Dropped = omega arith
+one-more (Held row) = omega arith
+
+-- a change of one place takes at most one more into use, and none where that place was in use
+pub used-set : (places : List Place) (p : ℕ) (x : Place) → used (set places p x) ≤ used places + 1
+unfolding used
+used-set [] p x = omega arith
+used-set (y ∷ places) zero x = omega (arith, one-more x)
+used-set (y ∷ places) (suc p) x = omega (arith, used-set places p x)
+
+pub used-reset : (places : List Place) (p : ℕ) (x : Place) → p < length places → isFree (placeAt places p) ≡ false → used (set places p x) ≤ used places
+unfolding used
+used-reset [] p x l h = absurd (omega arith)
+used-reset (y ∷ places) zero x l h = rw h (omega (arith, one-more x))
+used-reset (y ∷ places) (suc p) x l h = omega (arith, used-reset places p x (omega arith) h)
 
 -- ---- the way of a search
 

@@ -1,7 +1,7 @@
 -- Rows in 512 places, each found by going on from a place that its three numbers give.
 use Prim.Native.Nat.{ℕ, _+_, _*_, _%_, _≤_, _<_}
 use mathlib.Core.Path.{_≡_}
-use mathlib.Core.Bool.{Bool, true, false}
+use mathlib.Core.Bool.{Bool, true, false, cond}
 use mathlib.Core.List.{List, [], _∷_}
 use lib.ListN.{length, getD}
 use Rattle.std.specs.declared.option.Option.{Option}
@@ -22,6 +22,11 @@ abbrev pub isFree : Place → Bool
 isFree Free = true
 isFree Dropped = false
 isFree (Held row) = false
+
+-- how many places are not free
+unfoldable pub used : List Place → ℕ
+used [] = 0
+used (place ∷ places) = used places + cond (isFree place) 0 1
 
 abbrev pub isHeld : Place → Bool
 isHeld Free = false

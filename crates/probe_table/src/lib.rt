@@ -8,7 +8,7 @@ ghost use Rattle.std.specs.declared.option.Option.the-variants.{Some, None};
 ghost use Rattle.pairs.specs.Gathering.{Gathered};
 ghost use Rattle.pairs.specs.Rows.{apart, allSmall, inForce, Small};
 ghost use Rattle.pairs.specs.Changes.{Added};
-ghost use Rattle.probe_table.specs.Probing.{held, start, along, Reached, Located, Open, Same};
+ghost use Rattle.probe_table.specs.Probing.{held, used, start, along, Reached, Located, Open, Same};
 
 mod place;
 
@@ -27,9 +27,10 @@ const LIMIT: usize = 256;
 const PLACES: usize = 512;
 
 // How many rows are put in before the places are laid out anew, without those of dropped rows.
-const WORN: usize = 384;
+const WORN: usize = 320;
 
 // Up to 256 rows in 512 places. A dropped row's place is marked, so that rows further on are still reached.
+// At most 320 places are not free at any time, so a search soon meets a free one, however many rows were put in and dropped.
 #[derive(Drop)]
 pub struct ProbeTable {
     places: [Place; 512],
@@ -38,7 +39,8 @@ pub struct ProbeTable {
     ghost whole: { length places ≡ 512 },
     ghost counted: { count ≡ length (held places) },
     ghost few: { count ≤ 256 },
-    ghost fresh: { spent ≤ 384 },
+    ghost fresh: { spent ≤ 320 },
+    ghost roomy: { used places ≤ spent },
     ghost differ: { apart (held places) ≡ true },
     ghost little: { allSmall (held places) ≡ true },
     ghost reached: { Reached places },
@@ -108,7 +110,7 @@ impl ProbeTable {
         requires fit { ⌜ Small row ⌝ }
         requires absent { ⌜ inForce (held (now self .places)) (row .relationship) (row .from) (row .to) ≡ None ⌝ }
         requires room { ⌜ now self .count < 256 ⌝ }
-        requires unworn { ⌜ now self .spent < 384 ⌝ }
+        requires unworn { ⌜ now self .spent < 320 ⌝ }
         ensures added { λ _. ⌜ Added (held (now (self .entry) .places)) row (held (now (self .exit) .places)) ⌝ }
         ensures spends { λ _. ⌜ now (self .exit) .spent ≡ now (self .entry) .spent + 1 ⌝ }
     {
@@ -137,7 +139,7 @@ impl ProbeTable {
     fn freshen(&mut self)
         requires { ⌜ now self .count < 256 ⌝ }
         ensures same { λ _. ⌜ Same (held (now (self .entry) .places)) (held (now (self .exit) .places)) ⌝ }
-        ensures unworn { λ _. ⌜ now (self .exit) .spent < 384 ⌝ }
+        ensures unworn { λ _. ⌜ now (self .exit) .spent < 320 ⌝ }
     {
         if self.spent >= WORN {
             *self = self.relaid();

@@ -2,7 +2,8 @@ use Prim.Native.Nat.{_<_, _≤_}
 use mathlib.Core.Path.{refl, _∙_}
 use native.Mathlib.Omega.{arith}
 use lib.ListN.{length, length-set}
-use Rattle.probe_table.proofs.Probing.{grown-place, reached-put}
+use Rattle.probe_table.specs.declared.place.Place.the-variants.{Held}
+use Rattle.probe_table.proofs.Probing.{grown-place, used-set, reached-put}
 use Rattle.probe_table.proofs.ProbeTable.insert.Needs as need
 
 pub offset-self-place : need.offset-self-place
@@ -19,7 +20,16 @@ ghost-self c =
       length-set (self .places) (c .room-place .result) _ ∙ self .whole,
       (
         omega (arith, more .added .count),
-        (omega arith, (omega arith, (more .differ, (more .little, (reached-put (self .places) (self .whole) (self .reached) (c .args .row) (c .room-place .result) to, tt))))),
+        (
+          omega arith,
+          (
+            omega arith,
+            (
+              omega (arith, used-set (self .places) (c .room-place .result) (Held (c .args .row)), self .roomy),
+              (more .differ, (more .little, (reached-put (self .places) (self .whole) (self .reached) (c .args .row) (c .room-place .result) to, tt))),
+            ),
+          ),
+        ),
       ),
     )
 

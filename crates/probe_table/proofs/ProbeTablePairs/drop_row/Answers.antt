@@ -1,10 +1,12 @@
 use Prim.Native.Nat.{_<_, _≤_, _-_}
-use mathlib.Core.Path.{refl, _∙_}
+use mathlib.Core.Path.{refl, ap, _∙_}
 use native.Mathlib.Omega.{arith}
 use lib.ListN.{length, length-set}
 use Rattle.pairs.proofs.Rows.{alike-self}
 use Rattle.pairs.proofs.Changed.{dropped}
-use Rattle.probe_table.proofs.Probing.{gone-place, in-force-place, reached-dropped}
+use Rattle.probe_table.specs.declared.place.Place.the-variants.{Dropped}
+use Rattle.probe_table.specs.Probing.{isFree}
+use Rattle.probe_table.proofs.Probing.{gone-place, in-force-place, used-reset, reached-dropped}
 use Rattle.probe_table.proofs.ProbeTablePairs.drop_row.Needs as need
 
 pub sub-self : need.sub-self
@@ -21,7 +23,16 @@ ghost-self c =
       length-set (self .places) (c .in-Some .place) _ ∙ self .whole,
       (
         omega (arith, goes .count, self .counted),
-        (omega arith, (omega arith, (goes .differ, (goes .little, (reached-dropped (self .places) (self .whole) (self .reached) (c .in-Some .place) (omega arith), tt))))),
+        (
+          omega arith,
+          (
+            omega arith,
+            (
+              omega (arith, used-reset (self .places) (c .in-Some .place) Dropped (omega arith) (ap isFree (there .1)), self .roomy),
+              (goes .differ, (goes .little, (reached-dropped (self .places) (self .whole) (self .reached) (c .in-Some .place) (omega arith), tt))),
+            ),
+          ),
+        ),
       ),
     )
 
