@@ -1,0 +1,11 @@
+// A place of the probe table.
+use pairs::row::Row;
+
+#[derive(Clone, Copy)]
+pub enum Place {
+    // held no row since the table was made
+    Free,
+    // held a row that was dropped
+    Dropped,
+    Held(Row),
+}
