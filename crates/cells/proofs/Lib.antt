@@ -1,0 +1,4 @@
+pub mod Digits
+pub mod Words
+pub mod Laws
+pub mod Renumbers
