@@ -1,0 +1,5 @@
+pub mod Calls
+pub mod EvenPlaces
+pub mod Frames
+pub mod PackedSpans
+pub mod Places
