@@ -1,4 +1,4 @@
-// Stores of cells: what a store is, and two of them.
+// Stores of cells: what a store is.
 ghost use mathlib.Core.Path.{_≡_};
 ghost use lib.ListN.{length};
 ghost use Rattle.store.specs.Laws.{Lawful};
@@ -10,8 +10,6 @@ use values::value::Value;
 
 pub mod cell;
 pub mod client;
-pub mod even;
-pub mod packed;
 
 // A store of cells, numbered from 0 as they are made. Its limits and what it charges for a cell never change.
 // Questions and refusals change nothing.

@@ -1,5 +1,0 @@
-use Rattle.store.proofs.EvenPlaces.{even-lawful}
-use Rattle.store.proofs.even.calls.EvenStoreStore.the-impl.Needs as need
-
-pub lawful-law : need.lawful-law
-lawful-law = even-lawful

@@ -1,6 +1,0 @@
-use Rattle.store.specs.Packed.{packedModel}
-use Rattle.store.proofs.packed.calls.PackedStoreStore.charge.Needs as need
-
-pub returns : need.returns
-unfolding packedModel
-returns c = c .min .ensures

@@ -1,7 +1,0 @@
-use mathlib.Core.Path.{refl}
-use Rattle.store.specs.Packed.{packedModel}
-use Rattle.store.proofs.packed.calls.PackedStoreStore.slot_limit.Needs as need
-
-pub returns : need.returns
-unfolding packedModel
-returns c = refl
