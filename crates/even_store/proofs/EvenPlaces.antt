@@ -15,8 +15,8 @@ use Rattle.even_store.specs.declared.even.EvenStore.{EvenStore}
 use Rattle.even_store.specs.Even.{placed, evenModel}
 use Rattle.store.specs.Laws.{Lawful}
 use Rattle.values.specs.declared.value.Value.{Value}
-use Rattle.store.specs.Model.{StoredCell, changed, slotsOf, written}
-use Rattle.store.proofs.Calls.{changed-set}
+use Rattle.store.specs.Model.{StoredCell, changed, fieldsAt, slotsOf, written}
+use Rattle.store.proofs.Calls.{changed-set, its-count}
 use Rattle.store.proofs.Places.{length-front, nth-front, nth-take, set-front}
 
 pub used-cells : (s : EvenStore) → length (evenModel s .cells) ≡ s .used
@@ -78,3 +78,7 @@ cells-changed s i f v d p h e =
 
 pub field-at : (p : Place) (f : ℕ) (d : Value) → f < p .count → nth (placed p .fields) f ≡ Some (getD (p .values) f d)
 field-at p f d h = nth-take (p .values) (p .count) f d h (omega arith)
+
+pub count-at : (s : EvenStore) (i : ℕ) (d : Place) → i < s .used → Some (getD (s .places) i d .count) ≡ fieldsAt (evenModel s) i
+count-at s i d h =
+    ap Some (sym (count-of (getD (s .places) i d))) ∙ its-count (evenModel s) i (placed (getD (s .places) i d)) (cell-at s i d h)

@@ -18,7 +18,7 @@ struct Place {
 #[derive(Clone, Copy)]
 pub struct EvenStore {
     places: [Place; 128],
-    used: u8,
+    used: usize,
     ghost whole: { length places ≡ 128 },
     ghost few: { used ≤ 128 },
 }

@@ -7,6 +7,7 @@ use native.Mathlib.Nat.{zero-add}
 use native.Mathlib.Omega.{arith}
 use lib.ListN.{length, getD, set, take, drop, replicate, length-take, length-drop}
 use Rattle.std.specs.declared.option.Option.the-variants.{Some}
+use Rattle.std.specs.declared.result.Result.the-variants.{Ok}
 use Rattle.std.specs.Finite.{nth}
 use Rattle.std.specs.shelf.Lists.{All, sumBy}
 use Rattle.std.proofs.shelf.Elements.{all-from-getD}
@@ -20,8 +21,9 @@ use Rattle.store.specs.declared.cell.Head.the-variants.{Object}
 use Rattle.packed_store.specs.declared.packed.Span.{Span}
 use Rattle.packed_store.specs.declared.packed.PackedStore.{PackedStore}
 use Rattle.store.specs.Laws.{Lawful}
-use Rattle.store.specs.Model.{StoredCell, changed, newCell, slotsOf}
-use Rattle.packed_store.specs.Packed.{laid, packedModel}
+use Rattle.store.specs.Model.{StoredCell, changed, fieldAt, newCell, slotsOf}
+use Rattle.store.proofs.Calls.{its-field}
+use Rattle.packed_store.specs.Packed.{Slot, laid, packedModel}
 use Rattle.store.proofs.Places.{nth-take, set-front}
 
 -- the slots of a list of spans
@@ -221,18 +223,38 @@ module _ (s : PackedStore) where
       sym (drop-drop n (s .filled) (s .slots)) ∙ ap (drop n) (s .blank) ∙ drop-replicate n (512 - s .filled) Null
       ∙ ap (λ k. replicate k Null) (omega arith)
 
-  -- one field changed
-  module _ (i f : ℕ) (v : Value) (h : i < s .used) (k : f < getD (s .spans) i nowhere .count) where
-    pub put-blank : drop (s .filled) (set (s .slots) (getD (s .spans) i nowhere .start + f) v) ≡ replicate (512 - s .filled) Null
-    put-blank =
-        let e = slots-end i nowhere h in
-        drop-set-lt (s .filled) (s .slots) (getD (s .spans) i nowhere .start + f) v (omega arith) ∙ s .blank
+  pub slot-end : (c f n : ℕ) → Slot s c f n → n < s .filled
+  slot-end c f n w =
+      let e = w .is nowhere in
+      let k = w .counted nowhere in
+      let l = slots-end c nowhere (w .used) in
+      omega arith
 
-    pub put-cells : laid (take (s .used) (s .spans)) (set (s .slots) (getD (s .spans) i nowhere .start + f) v) ≡ changed (packedModel s .cells) i f v
+  -- the slot of a field: it is filled, it is read as the field, and writing it changes the field
+  module _ (c f n : ℕ) (v : Value) (w : Slot s c f n) where
+    slot-is : n ≡ getD (s .spans) c nowhere .start + f
+    slot-is = w .is nowhere
+
+    slot-counted : f < getD (s .spans) c nowhere .count
+    slot-counted = w .counted nowhere
+
+    pub slot-reads : Ok (getD (s .slots) n v) ≡ fieldAt (packedModel s) c f
+    slot-reads =
+        let e = slot-is in
+        rw e
+        (its-field (packedModel s) c (cut (getD (s .spans) c nowhere) (getD (s .spans) c nowhere .start) (s .slots)) (cell-at c nowhere (w .used)) f _
+        (field-at c f nowhere v (w .used) slot-counted))
+
+    pub slot-blank : drop (s .filled) (set (s .slots) n v) ≡ replicate (512 - s .filled) Null
+    slot-blank = let e = slot-end c f n w in drop-set-lt (s .filled) (s .slots) n v e ∙ s .blank
+
+    pub slot-cells : laid (take (s .used) (s .spans)) (set (s .slots) n v) ≡ changed (packedModel s .cells) c f v
     unfolding packedModel
-    put-cells =
-        let n = front-length in
-        let e = getD-take (s .used) (s .spans) i nowhere h in
-        let b = starts-front i nowhere h in
-        ap (λ n. laid (take (s .used) (s .spans)) (set (s .slots) (n + f) v)) (sym b)
-        ∙ laid-set (take (s .used) (s .spans)) (s .slots) i f v nowhere (omega arith) (rw e k)
+    slot-cells =
+        let l = front-length in
+        let e = getD-take (s .used) (s .spans) c nowhere (w .used) in
+        let b = starts-front c nowhere (w .used) in
+        let k = slot-counted in
+        let i = slot-is in
+        ap (λ m. laid (take (s .used) (s .spans)) (set (s .slots) m v)) (i ∙ ap (λ m. m + f) (sym b))
+        ∙ laid-set (take (s .used) (s .spans)) (s .slots) c f v nowhere (let u = w .used in omega arith) (rw e k)

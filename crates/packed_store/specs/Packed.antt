@@ -1,7 +1,8 @@
 -- What the packed store means.
 use mathlib.Core.List.{List, [], _∷_}
-use Prim.Native.Nat.{ℕ, min}
-use lib.ListN.{take, drop}
+use mathlib.Core.Path.{_≡_}
+use Prim.Native.Nat.{ℕ, min, _+_, _<_}
+use lib.ListN.{getD, take, drop}
 use Rattle.values.specs.declared.value.Value.{Value}
 use Rattle.packed_store.specs.declared.packed.Span.{Span}
 use Rattle.packed_store.specs.declared.packed.PackedStore.{PackedStore}
@@ -18,3 +19,9 @@ laid (s ∷ ss) vs = record { head = s .head; fields = take (s .count) vs } ∷ 
 
 unfoldable pub packedModel : PackedStore → Model
 packedModel s = packed (laid (take (s .used) (s .spans)) (s .slots))
+
+-- n is the slot of field f of cell c
+pub record Slot (s : PackedStore) (c f n : ℕ) : Type 0 where
+  pub used : c < s .used
+  pub counted : (d : Span) → f < getD (s .spans) c d .count
+  pub is : (d : Span) → n ≡ getD (s .spans) c d .start + f

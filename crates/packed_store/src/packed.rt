@@ -20,7 +20,7 @@ struct Span {
 #[derive(Clone, Copy)]
 pub struct PackedStore {
     spans: [Span; 128],
-    used: u8,
+    used: usize,
     slots: [Value; 512],
     filled: usize,
     ghost whole: { length spans ≡ 128 },

@@ -40,13 +40,13 @@ pub impl Store for EvenStore as EvenStoreStore {
             return Err(MakeRefusal::Cells);
         }
         let cell = self.used;
-        self.places[cell as usize] = Place::new(head, fields);
+        self.places[cell] = Place::new(head, fields);
         self.used = cell + 1;
-        Ok(cell)
+        Ok(cell as u8)
     }
 
     fn put(&mut self, cell: u8, field: u8, value: Value) -> Result<(), Absent> {
-        if cell >= self.used {
+        if cell as usize >= self.used {
             return Err(Absent::Cell);
         }
         let mut place = self.places[cell as usize];
@@ -59,21 +59,21 @@ pub impl Store for EvenStore as EvenStoreStore {
     }
 
     fn head(&self, cell: u8) -> Option<Head> {
-        if cell >= self.used {
+        if cell as usize >= self.used {
             return None;
         }
         Some(self.places[cell as usize].head)
     }
 
     fn fields(&self, cell: u8) -> Option<u8> {
-        if cell >= self.used {
+        if cell as usize >= self.used {
             return None;
         }
         Some(self.places[cell as usize].count)
     }
 
     fn value(&self, cell: u8, field: u8) -> Result<Value, Absent> {
-        if cell >= self.used {
+        if cell as usize >= self.used {
             return Err(Absent::Cell);
         }
         let place = self.places[cell as usize];
@@ -84,7 +84,7 @@ pub impl Store for EvenStore as EvenStoreStore {
     }
 
     fn cells(&self) -> u8 {
-        self.used
+        self.used as u8
     }
 
     fn slots(&self) -> u16 {

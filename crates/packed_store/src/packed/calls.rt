@@ -2,7 +2,10 @@ ghost use mathlib.Core.Path.{_≡_};
 ghost use mathlib.Core.List.{[]};
 ghost use lib.ListN.{replicate};
 ghost use Rattle.values.specs.declared.value.Value.the-variants.{Null};
-ghost use Rattle.packed_store.specs.Packed.{packed, packedModel};
+ghost use Rattle.std.specs.Results.{Cases};
+ghost use Rattle.std.specs.declared.result.Result.the-variants.{Err};
+ghost use Rattle.store.specs.Model.{fieldAt};
+ghost use Rattle.packed_store.specs.Packed.{Slot, packed, packedModel};
 use super::PackedStore;
 use super::Span;
 use store::Store;
@@ -15,6 +18,22 @@ fn blank() -> [Value; 512]
     ensures { λ r. ⌜ r ≡ replicate 512 Null ⌝ }
 {
     [Value::Null; 512]
+}
+
+impl PackedStore {
+    // Where a field's slot lies.
+    fn slot(&self, cell: u8, field: u8) -> Result<usize, Absent>
+        ensures { λ r. ⌜ Cases r (Slot (now (self .entry)) cell field) (λ e. fieldAt (packedModel (now (self .entry))) cell field ≡ Err e) ⌝ }
+    {
+        if cell as usize >= self.used {
+            return Err(Absent::Cell);
+        }
+        let span = self.spans[cell as usize];
+        if field >= span.count {
+            return Err(Absent::Field);
+        }
+        Ok(span.start + field as usize)
+    }
 }
 
 pub impl Store for PackedStore as PackedStoreStore {
@@ -40,57 +59,43 @@ pub impl Store for PackedStore as PackedStoreStore {
             return Err(MakeRefusal::Slots);
         }
         let cell = self.used;
-        self.spans[cell as usize] = Span {
+        self.spans[cell] = Span {
             head,
             start,
             count: fields,
         };
         self.used = cell + 1;
         self.filled = end;
-        Ok(cell)
+        Ok(cell as u8)
     }
 
     fn put(&mut self, cell: u8, field: u8, value: Value) -> Result<(), Absent> {
-        if cell >= self.used {
-            return Err(Absent::Cell);
-        }
-        let span = self.spans[cell as usize];
-        if field >= span.count {
-            return Err(Absent::Field);
-        }
-        let at = span.start + field as usize;
-        self.slots[at] = value;
+        let slot = self.slot(cell, field)?;
+        self.slots[slot] = value;
         Ok(())
     }
 
     fn head(&self, cell: u8) -> Option<Head> {
-        if cell >= self.used {
+        if cell as usize >= self.used {
             return None;
         }
         Some(self.spans[cell as usize].head)
     }
 
     fn fields(&self, cell: u8) -> Option<u8> {
-        if cell >= self.used {
+        if cell as usize >= self.used {
             return None;
         }
         Some(self.spans[cell as usize].count)
     }
 
     fn value(&self, cell: u8, field: u8) -> Result<Value, Absent> {
-        if cell >= self.used {
-            return Err(Absent::Cell);
-        }
-        let span = self.spans[cell as usize];
-        if field >= span.count {
-            return Err(Absent::Field);
-        }
-        let at = span.start + field as usize;
+        let at = self.slot(cell, field)?;
         Ok(self.slots[at])
     }
 
     fn cells(&self) -> u8 {
-        self.used
+        self.used as u8
     }
 
     fn slots(&self) -> u16 {

@@ -13,4 +13,4 @@ returns-then-cell-self c =
 pub returns : need.returns
 returns c =
     let s = c .args .self .now in
-    its-head (evenModel s) (c .args .cell) _ (cell-at s (c .args .cell) (c .index-self-cell .result) (c .if-cell-self .left))
+    its-head (evenModel s) (c .args .cell) _ (cell-at s (c .args .cell) _ (c .if-cell-self .left))
