@@ -15,7 +15,7 @@ struct Place {
 }
 
 // A store of 128 cells that charges 8 slots for each, of 1,024.
-#[derive(Clone, Copy)]
+#[derive(Drop)]
 pub struct EvenStore {
     places: [Place; 128],
     used: usize,

@@ -17,7 +17,7 @@ struct Span {
 
 // A store of 128 cells that charges n slots for n fields, of 512. The cells' slots stand one after another, and
 // those that no cell has are null.
-#[derive(Clone, Copy)]
+#[derive(Drop)]
 pub struct PackedStore {
     spans: [Span; 128],
     used: usize,

@@ -1,5 +1,5 @@
 // What a cell is besides its fields: an object of a class, or an instance of a relationship between two cells.
-#[derive(Clone, Copy)]
+#[derive(Clone, Copy, PartialEq, Eq)]
 pub enum Head {
     Object {
         class: u8,
@@ -14,7 +14,7 @@ pub enum Head {
 }
 
 // Why no cell is made: over 8 fields, or else all cells are in use, or else too few slots are left.
-#[derive(Clone, Copy)]
+#[derive(Clone, Copy, PartialEq, Eq)]
 pub enum MakeRefusal {
     Fields,
     Cells,
@@ -22,7 +22,7 @@ pub enum MakeRefusal {
 }
 
 // What a question or a change names and the store lacks.
-#[derive(Clone, Copy)]
+#[derive(Clone, Copy, PartialEq, Eq)]
 pub enum Absent {
     Cell,
     Field,
