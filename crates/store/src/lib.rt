@@ -10,6 +10,7 @@ use values::value::Value;
 
 pub mod cell;
 pub mod client;
+pub mod rows;
 
 // A store of cells, numbered from 0 as they are made. Its limits and what it charges for a cell never change.
 // Questions and refusals change nothing.

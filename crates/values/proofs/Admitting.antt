@@ -10,10 +10,11 @@ use Rattle.cells.proofs.Laws.{has-none}
 use Rattle.values.specs.declared.types.Lineage.{Lineage}
 use Rattle.values.specs.declared.types.Kind.{Kind}
 use Rattle.values.specs.declared.types.Kind.the-variants as kinds
+use Rattle.values.specs.declared.types.CellRow.{CellRow}
 use Rattle.values.specs.declared.types.Ty.{Ty}
 use Rattle.values.specs.declared.value.Value.{Value}
 use Rattle.values.specs.Fits.{Ancestry, AreLines, RowFits, Fits, fits-itself, fits-row, null-fits, fits-set}
-use Rattle.values.specs.Admits.{CellRow, CellFits, Admits, admits-truth, null-admits, admits-null, admits-cell, admits-set, FitLaws, Initially, initialOf}
+use Rattle.values.specs.Admits.{CellFits, Admits, admits-truth, null-admits, admits-null, admits-cell, admits-set, FitLaws, Initially, initialOf}
 use Rattle.values.proofs.Fitting.{row-transitive}
 
 -- two kinds that differ are not equal

@@ -27,4 +27,11 @@ pub struct Ty {
     ghost plain: { plainRow kind row ≡ true },
 }
 
+// The row of a cell: its line, and its number there.
+#[derive(Clone, Copy)]
+pub struct CellRow {
+    pub lineage: Lineage,
+    pub number: u8,
+}
+
 pub mod methods;
