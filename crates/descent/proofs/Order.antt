@@ -1,14 +1,14 @@
 -- The laws of descent, shown once for every line.
-use mathlib.Core.Path.{_≡_, refl, sym, subst}
+use mathlib.Core.Path.{_≡_, refl}
 use mathlib.Core.List.{List, [], _∷_}
-use mathlib.Core.Bool.{Bool, true, false, cond, _&&_}
+use mathlib.Core.Bool.{Bool, true}
 use mathlib.Core.Logic.{_⊎_, inl, inr}
 use Prim.Native.Nat.{ℕ, zero, suc, _<_, _≤_}
 use native.Mathlib.Omega.{arith}
-use lib.Dec.{ltb, eqb}
+use lib.Dec.{ltb}
 use lib.ListN.{length, getD}
 use Rattle.std.specs.Orderings.{Decides}
-use Rattle.std.proofs.shelf.Tests.{cases-eq, cases-lt, cases-bool, ltb-true, ltb-false, eqb-true, eqb-false, lt-ltb, le-ltb, eq-eqb, ne-eqb, and-parts, and-from, both-ways}
+use Rattle.std.proofs.shelf.Tests.{cases-eq, cases-bool, ltb-true, eqb-true, lt-ltb, le-ltb, eq-eqb, and-parts, and-from, both-ways}
 use Rattle.std.proofs.shelf.Ways.{same-from-decides}
 use Rattle.descent.specs.Descent.{IsLine, Parent, Descends, itself, upward, Chain, top, under, Order, climbs, descendsTo}
 

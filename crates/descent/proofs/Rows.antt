@@ -1,8 +1,8 @@
 -- What the fields of a `Line` say of its list of parents.
-use mathlib.Core.Path.{_≡_, refl, sym, _∙_}
-use Prim.Native.Nat.{ℕ, _<_, _≤_}
+use mathlib.Core.Path.{_≡_, _∙_}
+use Prim.Native.Nat.{ℕ, _<_}
 use native.Mathlib.Omega.{arith}
-use lib.ListN.{length, getD, take, length-take}
+use lib.ListN.{length, getD, length-take}
 use lib.Seq.{getD-take}
 use Rattle.descent.specs.declared.line.Line.{Line}
 use Rattle.descent.specs.Descent.{IsLine, Parent}

@@ -1,18 +1,16 @@
 -- The search upward: its steps, that it has one answer, and the function that computes it.
-use mathlib.Core.Path.{_≡_, refl, sym, ap, _∙_}
+use mathlib.Core.Path.{_≡_, refl, sym}
 use mathlib.Core.List.{List}
-use mathlib.Core.Bool.{Bool, true, false, cond}
-use mathlib.Core.Logic.{_⊎_, inl, inr}
+use mathlib.Core.Logic.{inl, inr}
 use Prim.Native.Nat.{ℕ, zero, suc, _<_, _≤_}
 use native.Mathlib.Omega.{arith}
-use lib.Dec.{ltb, eqb}
 use lib.ListN.{length, getD}
 use Rattle.std.specs.declared.option.Option.{Option}
 use Rattle.std.specs.declared.option.Option.the-variants.{Some, None}
 use Rattle.std.proofs.shelf.Tests.{cases-eq, cases-lt, lt-ltb, le-ltb, eq-eqb, ne-eqb}
 use Rattle.descent.specs.Descent.{IsLine, Parent, Descends, itself, upward}
-use Rattle.descent.specs.Nearest.{Nearest, Lacking, Found, climb, here-or, nearestUp}
-use Rattle.descent.proofs.Order.{starts, ends, over, single, antisymmetric, rooted, parent-of, parent-smaller, transitive, falling}
+use Rattle.descent.specs.Nearest.{Nearest, Lacking, Found, climb, nearestUp}
+use Rattle.descent.proofs.Order.{starts, ends, over, single, antisymmetric, rooted, parent-of, parent-smaller, transitive}
 
 clash : {M : Type 0} {C : Type 0} {o : Option M} {m : M} → o ≡ None → o ≡ Some m → C
 clash p q = let z : _≡_ {A = ℕ} 0 1 = cc in absurd (omega arith)

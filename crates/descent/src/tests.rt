@@ -1,4 +1,3 @@
-ghost use Prim.Native.Nat.{ℕ};
 ghost use mathlib.Core.Bool.{cond};
 ghost use lib.Dec.{eqb};
 ghost use Rattle.std.specs.declared.option.Option.the-variants.{Some, None};

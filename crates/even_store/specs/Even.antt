@@ -1,6 +1,5 @@
 -- What the even store means.
 use mathlib.Core.List.{List, map}
-use Prim.Native.Nat.{ℕ}
 use lib.ListN.{take}
 use Rattle.even_store.specs.declared.even.Place.{Place}
 use Rattle.even_store.specs.declared.even.EvenStore.{EvenStore}

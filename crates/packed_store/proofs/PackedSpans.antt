@@ -16,7 +16,6 @@ use Rattle.std.proofs.shelf.Tests.{cases-eq}
 use Rattle.std.proofs.shelf.Sums.{sumBy-cons, sumBy-more, sumBy-push, sumBy-take-le}
 use Rattle.values.specs.declared.value.Value.{Value}
 use Rattle.values.specs.declared.value.Value.the-variants.{Null}
-use Rattle.store.specs.declared.cell.Head.{Head}
 use Rattle.store.specs.declared.cell.Head.the-variants.{Object}
 use Rattle.packed_store.specs.declared.packed.Span.{Span}
 use Rattle.packed_store.specs.declared.packed.PackedStore.{PackedStore}

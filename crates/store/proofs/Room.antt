@@ -1,6 +1,5 @@
 -- Room for a row of cells, in any store.
 use mathlib.Core.Path.{_≡_, sym, ap, _∙_}
-use mathlib.Core.List.{[], _∷_, _++_}
 use mathlib.Core.Bool.{true}
 use Prim.Native.Nat.{ℕ, _+_, _<_, _≤_}
 use native.Mathlib.Omega.{arith}
@@ -13,7 +12,7 @@ use Rattle.std.proofs.shelf.Tests.{and-parts, and-from, leb-true, le-leb, lt-le
 use Rattle.values.specs.declared.value.Value.the-variants.{Null}
 use Rattle.store.specs.declared.cell.Head.{Head}
 use Rattle.store.specs.Frames.{RoomLasts, hasRoom}
-use Rattle.store.specs.Model.{Model, afterMake, makeAnswer, newCell, slotsOf}
+use Rattle.store.specs.Model.{Model, afterMake, newCell, slotsOf}
 use Rattle.store.proofs.Calls.{makes}
 
 -- a cell more is charged for its fields

@@ -1,17 +1,15 @@
 -- The laws of fitting.
-use mathlib.Core.Path.{_≡_, refl, sym, subst, _∙_}
+use mathlib.Core.Path.{_≡_, refl, sym, _∙_}
 use mathlib.Core.Bool.{Bool, true, false}
-use mathlib.Core.Logic.{_⊎_, inl, inr}
-use Prim.Native.Nat.{ℕ, _<_, _≤_}
+use mathlib.Core.Logic.{inl, inr}
+use Prim.Native.Nat.{ℕ}
 use native.Mathlib.Omega.{arith}
 use lib.ListN.{length}
 use Rattle.std.specs.Orderings.{Decides}
-use Rattle.std.proofs.shelf.Tests.{both-ways, eqb-true, eq-eqb, ltb-true, lt-ltb, and-parts, and-from, cases-bool, or-left, or-cases}
+use Rattle.std.proofs.shelf.Tests.{both-ways, eqb-true, eq-eqb, ltb-true, lt-ltb, and-parts, and-from, cases-bool, or-left}
 use Rattle.std.proofs.shelf.Ways.{same-from-decides}
-use Rattle.descent.specs.Descent.{Descends, IsLine}
 use Rattle.descent.proofs.Order as order
 use Rattle.descent.proofs.Rows.{is-line}
-use Rattle.cells.specs.Members.{has}
 use Rattle.values.specs.declared.types.Lineage.{Lineage}
 use Rattle.values.specs.declared.types.Lineage.the-variants.{Class, Relationship}
 use Rattle.values.specs.declared.types.Kind.{Kind}

@@ -1,13 +1,12 @@
 -- The tests of admission tell.
-use mathlib.Core.Path.{_≡_, refl, sym, ap, _∙_}
-use mathlib.Core.Bool.{Bool, true, false, not, _||_}
-use mathlib.Core.Logic.{_⊎_, inl, inr}
-use Prim.Native.Nat.{ℕ, _<_, _≤_}
-use native.Mathlib.Omega.{arith}
+use mathlib.Core.Path.{_≡_, refl, sym}
+use mathlib.Core.Bool.{Bool, true, false}
+use mathlib.Core.Logic.{inl, inr}
+use Prim.Native.Nat.{ℕ, _<_}
 use Rattle.std.specs.Orderings.{Decides}
 use Rattle.std.specs.declared.option.Option.{Option}
 use Rattle.std.specs.declared.option.Option.the-variants.{Some, None}
-use Rattle.std.proofs.shelf.Tests.{both-ways, cases-bool, cases-lt, or-left, or-right}
+use Rattle.std.proofs.shelf.Tests.{both-ways, cases-bool, cases-lt}
 use Rattle.std.proofs.shelf.Ways.{decides-below-and}
 use Rattle.cells.specs.declared.CellSet.{CellSet}
 use Rattle.cells.specs.Members.{has}
@@ -19,7 +18,7 @@ use Rattle.values.specs.declared.types.CellRow.{CellRow}
 use Rattle.values.specs.declared.types.Ty.{Ty}
 use Rattle.values.specs.declared.value.Value.{Value}
 use Rattle.values.specs.declared.value.Value.the-variants.{Truth, Null, Cell, Set}
-use Rattle.values.specs.Fits.{Ancestry, AreLines, rowFitsTo}
+use Rattle.values.specs.Fits.{Ancestry, AreLines}
 use Rattle.values.specs.Admits.{CellFits, Admits, admits-truth, null-admits, admits-null, admits-cell, admits-set, cellFitsTo, allBelow, memberFitsTo, membersFitTo, admitsTo}
 use Rattle.values.proofs.Fitting.{rowFits-decides}
 

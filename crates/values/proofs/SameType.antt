@@ -1,6 +1,6 @@
 -- Types with the same kind and row are equal.
 use mathlib.Core.Path.{_≡_, refl, ap}
-use mathlib.Core.Bool.{Bool, true, false, Bool-set}
+use mathlib.Core.Bool.{true, false, Bool-set}
 use mathlib.Core.HLevel.{isProp→PathP}
 use Rattle.values.specs.declared.types.Ty.{Ty}
 use Rattle.std.specs.Orderings.{Decides}

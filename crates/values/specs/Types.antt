@@ -2,7 +2,6 @@
 use mathlib.Core.Path.{refl}
 use Prim.Native.Nat.{ℕ}
 use Rattle.values.specs.declared.types.Lineage.{Lineage}
-use Rattle.values.specs.declared.types.Kind.{Kind}
 use Rattle.values.specs.declared.types.Kind.the-variants.{Boolean, Null, Row, Set}
 use Rattle.values.specs.declared.types.Ty.{Ty}
 

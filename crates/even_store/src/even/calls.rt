@@ -2,7 +2,7 @@ ghost use mathlib.Core.Path.{_≡_};
 ghost use mathlib.Core.List.{[]};
 ghost use Prim.Native.Nat.{_≤_};
 ghost use Rattle.even_store.specs.Even.{even, evenModel, placed};
-ghost use Rattle.store.specs.Model.{afterMake, afterPut, cleared, fieldAt, fieldsAt, headAt, makeAnswer, newCell, putAnswer, slotsOf};
+ghost use Rattle.store.specs.Model.{newCell};
 use super::EvenStore;
 use super::Place;
 use store::Store;

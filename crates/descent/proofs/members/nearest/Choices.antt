@@ -1,4 +1,3 @@
-use Prim.Native.Nat.{_<_}
 use Rattle.descent.specs.Rows.{lineOf}
 use Rattle.descent.proofs.Search.{Passed}
 use Rattle.descent.proofs.members.nearest.Given as given

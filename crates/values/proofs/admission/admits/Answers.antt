@@ -1,5 +1,4 @@
 use Rattle.std.proofs.shelf.Ways.{decides-at}
-use Rattle.values.specs.Lines.{ancestry}
 use Rattle.values.proofs.Fitting.{are-lines}
 use Rattle.values.proofs.Members.{admits-decides}
 use Rattle.values.proofs.admission.admits.Needs as need

@@ -6,7 +6,7 @@ use Prim.Native.Nat.{_<_}
 use lib.ListN.{getD}
 use Rattle.std.specs.Orderings.{Decides}
 use Rattle.std.proofs.shelf.Tests.{eqb-true, eq-eqb, both-ways}
-use Rattle.descent.specs.Descent.{itself, upward, Parent, Descends}
+use Rattle.descent.specs.Descent.{itself, upward, Descends}
 use Rattle.descent.specs.Rows.{lineOf}
 use Rattle.descent.proofs.Order.{starts, laws, descends-same, transitive, over, falling, parent-smaller}
 use Rattle.descent.proofs.Rows.{rows-are, is-line, parent-there}

@@ -1,6 +1,5 @@
 use mathlib.Core.Path.{sym}
 use Rattle.descent.proofs.Rows.{rows-are, is-line}
-use Rattle.descent.proofs.Order.{laws}
 use Rattle.descent.proofs.line.Line.rows.Needs as need
 
 pub returns : need.returns

@@ -1,5 +1,4 @@
 use native.Mathlib.Omega.{arith}
-use mathlib.Core.Path.{_∙_}
 use Rattle.even_store.specs.Even.{evenModel}
 use Rattle.store.proofs.Calls.{no-count}
 use Rattle.even_store.proofs.EvenPlaces.{used-cells, count-at}

@@ -1,5 +1,5 @@
 use native.Mathlib.Omega.{arith}
-use mathlib.Core.Path.{_≡_, refl, sym, ap, _∙_}
+use mathlib.Core.Path.{refl, sym, ap, _∙_}
 use mathlib.Core.List.{_∷_, [], _++_}
 use Rattle.std.specs.declared.result.Result.the-variants.{Ok}
 use Rattle.even_store.specs.Even.{even, evenModel}
