@@ -24,14 +24,14 @@ module _ {M : Type 0} {line : List ℕ} {member : ℕ → Option M} (l : IsLine 
   pub passed-none : (a : ℕ) → a < length line → Passed line member a a
   passed-none a h = record { upward = itself h; none = λ r d e ne. absurd (ne (antisymmetric l e d)) }
 
-  pub passed-more : {a c p : ℕ} → Passed line member a c → member c ≡ None → Parent line c p → p < length line → Passed line member a p
+  pub passed-more : {a c p : ℕ} → Passed line member a c → None ≡ member c → Parent line c p → p < length line → Passed line member a p
   passed-more {a} {c} {p} s e h k =
       let b : Descends line c p = upward h (itself k) in
       record {
         upward = transitive (s .upward) b;
         none = λ r d f ne.
             elim (cases-eq r c) [
-              | inl z ↦ rw z e
+              | inl z ↦ rw z (sym e)
               | inr apart ↦ elim (single d (s .upward)) [
                 | inl g ↦ s .none r d g apart
                 | inr g ↦ absurd (ne (antisymmetric l f (over h g apart)))
@@ -39,18 +39,18 @@ module _ {M : Type 0} {line : List ℕ} {member : ℕ → Option M} (l : IsLine 
             ];
       }
 
-  pub passed-all : {a c : ℕ} → Passed line member a c → member c ≡ None → c ≡ 0 → Lacking line member a
+  pub passed-all : {a c : ℕ} → Passed line member a c → None ≡ member c → c ≡ 0 → Lacking line member a
   passed-all {a} {c} s e z =
       record {
         none = λ r d.
             elim (cases-eq r c) [
-              | inl y ↦ rw y e
+              | inl y ↦ rw y (sym e)
               | inr apart ↦ let t = rooted l r (ends d) in s .none r d (rw z t) apart
             ];
       }
 
-  pub passed-found : {a c : ℕ} {m : M} → Passed line member a c → member c ≡ Some m → Nearest line member a c m
-  passed-found s e = record { upward = s .upward; has = e; between = s .none }
+  pub passed-found : {a c : ℕ} {m : M} → Passed line member a c → Some m ≡ member c → Nearest line member a c m
+  passed-found s e = record { upward = s .upward; has = sym e; between = s .none }
 
   pub lacking-absent : (a : ℕ) → length line ≤ a → Lacking line member a
   lacking-absent a h = record { none = λ r d. let k = starts d in absurd (omega arith) }
@@ -79,18 +79,18 @@ module _ {M : Type 0} (line : List ℕ) (member : ℕ → Option M) (l : IsLine 
   -- the function gives it
   climb-found : {a : ℕ} (n c : ℕ) → c ≤ n → c < length line → Passed line member a c → (o : Option M) → member c ≡ o → Found line member a (climb n line member c)
   unfolding climb
-  climb-found zero c h k s (Some m) e = simp e (passed-found l s e)
-  climb-found (suc n) c h k s (Some m) e = simp e (passed-found l s e)
-  climb-found zero c h k s None e = simp e (passed-all l s e (omega arith))
+  climb-found zero c h k s (Some m) e = simp e (passed-found l s (sym e))
+  climb-found (suc n) c h k s (Some m) e = simp e (passed-found l s (sym e))
+  climb-found zero c h k s None e = simp e (passed-all l s (sym e) (omega arith))
   climb-found (suc n) c h k s None e =
       elim (cases-eq c 0) [
-        | inl z ↦ let t = eq-eqb c 0 z in simp (e, t) (passed-all l s e z)
+        | inl z ↦ let t = eq-eqb c 0 z in simp (e, t) (passed-all l s (sym e) z)
         | inr ne ↦
             let t = ne-eqb c 0 ne in
             let p = parent-of l c (omega arith) k in
             let m = parent-smaller l p in
             let u : getD line c 0 < length line = omega arith in
-            simp (e, t) (climb-found n (getD line c 0) (omega arith) u (passed-more l s e p u) (member (getD line c 0)) refl)
+            simp (e, t) (climb-found n (getD line c 0) (omega arith) u (passed-more l s (sym e) p u) (member (getD line c 0)) refl)
       ]
 
   pub nearest-found : (a : ℕ) → Found line member a (nearestUp line member a)

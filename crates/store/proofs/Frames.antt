@@ -13,14 +13,15 @@ use Rattle.std.specs.declared.result.Result.the-variants.{Ok, Err}
 use Rattle.std.specs.Results.{Cases}
 use Rattle.std.specs.Finite.{nth}
 use Rattle.std.proofs.shelf.Lists.{getD-replicate}
-use Rattle.std.proofs.shelf.Maps.{nth-getD}
-use Rattle.std.proofs.shelf.Tests.{cases-eq, cases-bool}
+use Rattle.std.proofs.shelf.Maps.{nth-getD, nth-past}
+use Rattle.std.proofs.shelf.Tests.{cases-eq, cases-bool, cases-lt}
 use Rattle.values.specs.declared.value.Value.{Value}
 use Rattle.values.specs.declared.value.Value.the-variants.{Null}
 use Rattle.store.specs.declared.cell.Head.{Head}
 use Rattle.store.specs.declared.cell.MakeRefusal.{MakeRefusal}
 use Rattle.store.specs.declared.cell.Absent.{Absent}
 use Rattle.store.specs.Frames.{OneField, OneCell}
+use Rattle.store.specs.Rows.{KeepsRows, rowIn}
 use Rattle.store.specs.Model.{Model, StoredCell, holding, newCell, changed, written, done, makeAnswer, putAnswer, afterMake, afterPut, slotsOf, fieldAt, fieldIn, fieldsAt, fieldsIn, headAt, headIn, valueIn}
 
 -- a list with one element more
@@ -88,6 +89,18 @@ pub found : (m : Model) (c f : ℕ) (w : Value) → fieldAt m c f ≡ Ok w → F
 unfolding fieldAt
 found m c f w r = found-in m c f w (nth (m .cells) c) refl r
 
+-- where the heads stay, the rows stay
+pub rows-kept : (m m′ : Model) → ((d : ℕ) → d < length (m .cells) → headAt m′ d ≡ headAt m d) → KeepsRows m m′
+unfolding headAt
+rows-kept m m′ same =
+    record {
+      keeps = λ d r e.
+          elim (cases-lt d (length (m .cells))) [
+            | inl h ↦ ap rowIn (same d h) ∙ e
+            | inr h ↦ let z = nth-past (m .cells) d h in clash (simp z at e)
+          ];
+    }
+
 module _ (m : Model) (c f : ℕ) (v : Value) where
   -- a cell of the changed store has the head and the number of fields of the old one
   kept-in : {A : Type 0} (g : Option StoredCell → A) → ((x : StoredCell) → g (Some (written x f v)) ≡ g (Some x))
@@ -118,6 +131,7 @@ module _ (m : Model) (c f : ℕ) (v : Value) where
         heads = kept-in headIn (λ z. refl) y (x .at-cell);
         counts = kept-in fieldsIn (λ z. ap Some (length-set (z .fields) f v)) y (x .at-cell);
         cells = length-changed (m .cells) c f v;
+        rows = rows-kept m (holding m (changed (m .cells) c f v)) (λ d h. kept-in headIn (λ z. refl) y (x .at-cell) d);
       }
 
 module _ (m : Model) (h : Head) (n : ℕ) where
@@ -136,6 +150,7 @@ module _ (m : Model) (h : Head) (n : ℕ) where
             simp (e, p, q);
         heads = λ d k. let o = nth-old (m .cells) (newCell h n) d k in simp o;
         fields = λ d f k. let o = nth-old (m .cells) (newCell h n) d k in simp o;
+        rows = rows-kept m (holding m (m .cells ++ (newCell h n ∷ []))) (λ d k. let o = nth-old (m .cells) (newCell h n) d k in simp o);
       }
 
 -- what an answer of put says of the field

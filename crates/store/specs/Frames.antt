@@ -9,6 +9,7 @@ use Rattle.std.specs.declared.result.Result.the-variants.{Ok}
 use Rattle.values.specs.declared.value.Value.{Value}
 use Rattle.values.specs.declared.value.Value.the-variants.{Null}
 use Rattle.store.specs.declared.cell.Head.{Head}
+use Rattle.store.specs.Rows.{KeepsRows}
 use Rattle.store.specs.Model.{Model, afterMake, fieldAt, fieldsAt, headAt, makeAnswer, slotsOf}
 
 -- one field is changed: it holds v afterwards, and every other field, head and number is as it was
@@ -18,6 +19,7 @@ pub record OneField (before after : Model) (c f : ℕ) (v : Value) : Type 0 wher
   pub heads : (d : ℕ) → headAt after d ≡ headAt before d
   pub counts : (d : ℕ) → fieldsAt after d ≡ fieldsAt before d
   pub cells : length (after .cells) ≡ length (before .cells)
+  pub rows : KeepsRows before after
 
 -- one cell is new: it comes after the others, with its head and n null fields, and the others are as they were
 pub record OneCell (before after : Model) (h : Head) (n c : ℕ) : Type 0 where
@@ -27,6 +29,7 @@ pub record OneCell (before after : Model) (h : Head) (n c : ℕ) : Type 0 where
   pub nulls : (f : ℕ) → f < n → fieldAt after c f ≡ Ok Null
   pub heads : (d : ℕ) → d < c → headAt after d ≡ headAt before d
   pub fields : (d f : ℕ) → d < c → fieldAt after d f ≡ fieldAt before d f
+  pub rows : KeepsRows before after
 
 -- room for k cells more that are charged s slots together
 unfoldable pub hasRoom : Model → ℕ → ℕ → Bool

@@ -1,4 +1,5 @@
 -- The rows of a store's cells.
+use mathlib.Core.Path.{_≡_}
 use Prim.Native.Nat.{ℕ}
 use Rattle.std.specs.declared.option.Option.{Option}
 use Rattle.std.specs.declared.option.Option.the-variants.{Some, None}
@@ -19,3 +20,7 @@ rowIn (Some h) = Some (rowOf h)
 
 abbrev pub rowAt : Model → ℕ → Option CellRow
 rowAt m c = rowIn (headAt m c)
+
+-- every cell of the store before is there after, with its row
+pub record KeepsRows (before after : Model) : Type 0 where
+  pub keeps : (c : ℕ) (r : CellRow) → rowAt before c ≡ Some r → rowAt after c ≡ Some r

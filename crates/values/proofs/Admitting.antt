@@ -4,6 +4,7 @@ use mathlib.Core.Bool.{true}
 use Prim.Native.Nat.{ℕ}
 use native.Mathlib.Omega.{arith}
 use Rattle.std.specs.declared.option.Option.{Option}
+use Rattle.std.specs.declared.option.Option.the-variants.{Some}
 use Rattle.std.proofs.shelf.Tests.{both-ways}
 use Rattle.cells.specs.Members.{has, none}
 use Rattle.cells.proofs.Laws.{has-none}
@@ -61,8 +62,20 @@ module _ {a : Ancestry} (lines : AreLines a) where
   widening rows s t v (fits-set {k = k} p q r) (admits-set {l = l} h f) =
       let e : l ≡ k = cc in admits-set q (λ c m. let g = f c m in cell-wider r (rw e at g))
 
+  cell-lasts : {rows later : ℕ → Option CellRow} → ((c : ℕ) (r : CellRow) → rows c ≡ Some r → later c ≡ Some r)
+      → {l : Lineage} {n c : ℕ} → CellFits a rows l n c → CellFits a later l n c
+  cell-lasts keep {c = c} f = record { row = f .row; there = keep c (f .row) (f .there); fits = f .fits }
+
+  lasting : (rows later : ℕ → Option CellRow) → ((c : ℕ) (r : CellRow) → rows c ≡ Some r → later c ≡ Some r)
+      → (t : Ty) (v : Value) → Admits a rows t v → Admits a later t v
+  lasting rows later keep t v (admits-truth h) = admits-truth h
+  lasting rows later keep t v (null-admits h) = null-admits h
+  lasting rows later keep t v (admits-null h) = admits-null h
+  lasting rows later keep t v (admits-cell h f) = admits-cell h (cell-lasts keep f)
+  lasting rows later keep t v (admits-set h f) = admits-set h (λ c m. cell-lasts keep (f c m))
+
   pub fit-laws : FitLaws a
-  fit-laws = record { reflexive = λ t. fits-itself refl; transitive = transitive; widening = widening }
+  fit-laws = record { reflexive = λ t. fits-itself refl; transitive = transitive; widening = widening; lasting = lasting }
 
 none-has : (c : ℕ) → has none c ≡ true → ⊥
 none-has c e = both-ways (has none c) (has-none c) e

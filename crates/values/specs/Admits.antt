@@ -69,8 +69,11 @@ initialOf (kinds.Set l) = Set none
 abbrev pub Initially : Ty → Value → Type 0
 Initially t v = (a : Ancestry) (rows : ℕ → Option CellRow) → Admits a rows t v
 
--- the laws of fitting on one pair of lines: what fits is admitted more widely
+-- the laws of fitting on one pair of lines: what fits is admitted more widely, and what is admitted stays so while the
+-- cells keep their rows
 pub record FitLaws (a : Ancestry) : Type 0 where
   pub reflexive : (t : Ty) → Fits a t t
   pub transitive : (s t u : Ty) → Fits a s t → Fits a t u → Fits a s u
   pub widening : (rows : ℕ → Option CellRow) (s t : Ty) (v : Value) → Fits a s t → Admits a rows s v → Admits a rows t v
+  pub lasting : (rows later : ℕ → Option CellRow) → ((c : ℕ) (r : CellRow) → rows c ≡ Some r → later c ≡ Some r)
+      → (t : Ty) (v : Value) → Admits a rows t v → Admits a later t v

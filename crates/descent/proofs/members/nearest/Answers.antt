@@ -1,5 +1,4 @@
 use native.Mathlib.Omega.{arith}
-use mathlib.Core.Path.{sym}
 use Rattle.std.specs.declared.option.Option.the-variants.{Some, None}
 use Rattle.descent.proofs.Order.{root-from, parent-smaller, ends}
 use Rattle.descent.proofs.Search.{passed-none, passed-more, passed-all, passed-found, nearest-same-as, lacking-absent}
@@ -19,17 +18,17 @@ loop-m-again g c =
     let l = c .rows .ensures .line in
     let p = c .in-Some-parent .ensures tt in
     let m = parent-smaller l p in
-    passed-more l (c .loop-m .inv) (sym (c .in-rest .ensures tt)) p (omega (arith, p .there))
+    passed-more l (c .loop-m .inv) (c .in-rest .ensures tt) p (omega (arith, p .there))
 
 pub returns-in-None : need.returns-in-None
 returns-in-None g c =
     let l = c .rows .ensures .line in
     let s = c .loop-m .inv in
-    let f = passed-all l s (sym (c .in-rest .ensures tt)) (root-from l (c .loop-m .at) (ends (s .upward)) (c .in-None .ensures tt)) in
+    let f = passed-all l s (c .in-rest .ensures tt) (root-from l (c .loop-m .at) (ends (s .upward)) (c .in-None .ensures tt)) in
     record { found = f; same = nearest-same-as _ _ l (c .args .row) None f }
 
 pub returns-in-Some : need.returns-in-Some
 returns-in-Some g c =
     let l = c .rows .ensures .line in
-    let f = passed-found l (c .loop-m .inv) (sym (c .in-Some .ensures tt)) in
+    let f = passed-found l (c .loop-m .inv) (c .in-Some .ensures tt) in
     record { found = f; same = nearest-same-as _ _ l (c .args .row) (Some (c .loop-m .at, c .in-Some .m)) f }
