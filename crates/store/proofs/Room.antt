@@ -1,4 +1,4 @@
--- Room for a row of cells, in any store.
+-- Room for a series of cells, in any store.
 use mathlib.Core.Path.{_≡_, sym, ap, _∙_}
 use mathlib.Core.Bool.{true}
 use Prim.Native.Nat.{ℕ, _+_, _<_, _≤_}

@@ -36,7 +36,7 @@ unfoldable pub hasRoom : Model → ℕ → ℕ → Bool
 hasRoom m k s = leb (length (m .cells) + k) (m .cell-limit) && leb (slotsOf m + s) (m .slot-limit)
 
 -- Where there is room for a cell of n fields and for others, the cell is made, and the room for the others is left. So a
--- row of cells is made whole if there is room for all of it.
+-- series of cells is made whole if there is room for all of it.
 pub record RoomLasts (m : Model) : Type 0 where
   pub makes : (n k s : ℕ) → n ≤ 8 → hasRoom m (k + 1) (m .charge n + s) ≡ true → makeAnswer m n ≡ Ok (length (m .cells))
   pub leaves : (h : Head) (n k s c : ℕ) → hasRoom m (k + 1) (m .charge n + s) ≡ true → hasRoom (afterMake m h n (Ok c)) k s ≡ true
