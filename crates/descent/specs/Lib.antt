@@ -1,0 +1,3 @@
+pub mod Descent
+pub mod Nearest
+pub mod Rows

@@ -1,0 +1,2 @@
+// The even store: every cell has the same room.
+pub mod even;

@@ -1,0 +1,2 @@
+// The packed store: the cells' slots stand one after another.
+pub mod packed;

@@ -1,0 +1,4 @@
+pub mod Calls
+pub mod Frames
+pub mod Places
+pub mod Room

@@ -1,0 +1,6 @@
+use mathlib.Core.Path.{refl}
+use Rattle.values.proofs.SameType.{ty-same}
+use Rattle.values.proofs.types.Ty.null.Needs as need
+
+pub returns : need.returns
+returns c = ty-same _ _ refl refl
