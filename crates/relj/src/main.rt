@@ -1,14 +1,16 @@
 // Reads a model text from standard input, and prints one line about it.
 use std::error::AnyError;
 use std::io::Read;
-use words::survey::LONGEST_TEXT;
 use words::survey::Extent;
+use words::survey::LONGEST_TEXT;
 use words::survey::survey;
 
 // Reads no more than shows that a text is too long, however much there is.
 fn read_text(rt: &LibcRuntime) -> Result<Vec<u8>, AnyError> {
     let mut text = Vec::new(rt.alloc());
-    let _ = rt.stdin().take(LONGEST_TEXT as u64 + 1).read_to_end(&mut text)?;
+    let _ = rt.stdin()
+        .take(LONGEST_TEXT as u64 + 1)
+        .read_to_end(&mut text)?;
     Ok(text)
 }
 
@@ -16,7 +18,10 @@ fn run(rt: &LibcRuntime) -> Result<(), AnyError> {
     let text = read_text(rt)?;
     match survey(text.as_slice()) {
         Ok(Extent { words, depth }) => {
-            println!(rt, "read {words} words, depth {depth}; grammar, declarations and types not judged yet")?;
+            println!(
+                rt,
+                "read {words} words, depth {depth}; grammar, declarations and types not judged yet"
+            )?;
         }
         Err(refusal) => {
             let number = refusal.number();

@@ -11,7 +11,7 @@ pub struct Word<'a> {
 }
 
 // A place in a text, from which words are handed out one after another.
-#[derive(Drop)]
+#[derive(Clone, Copy)]
 pub struct Cursor<'a> {
     text: &'a [u8],
     at: usize,

@@ -1,0 +1,10 @@
+pub mod Accepting
+pub mod Complete
+pub mod Exact
+pub mod Finishing
+pub mod Moves
+pub mod Saying
+pub mod Sound
+pub mod Unique
+pub mod UniqueExprs
+pub mod WordKinds
