@@ -1,10 +1,17 @@
 pub mod Accepting
+pub mod Bodies
 pub mod Complete
 pub mod Exact
+pub mod Expected
+pub mod Failing
 pub mod Finishing
+pub mod Items
 pub mod Moves
+pub mod Parses
+pub mod Passing
 pub mod Saying
 pub mod Sound
+pub mod Steps
 pub mod Unique
 pub mod UniqueExprs
 pub mod WordKinds

@@ -5,8 +5,12 @@ use Prim.Native.Nat.{ℕ}
 use Rattle.std.specs.declared.option.Option.{Option}
 use Rattle.std.specs.declared.option.Option.the-variants.{Some, None}
 use Rattle.words.specs.Words.{Token}
+use Rattle.std.specs.declared.result.Result.{Result}
+use Rattle.std.specs.declared.result.Result.the-variants.{Ok, Err}
+use Rattle.grammar.specs.declared.event.Event.{Event}
+use Rattle.grammar.specs.declared.parser.reading.Unexpected.{Unexpected}
+use Rattle.grammar.specs.Events.{events, fed}
 use Rattle.grammar.specs.Trees.{Program, spell}
-use Rattle.grammar.specs.Machine.{decls, runs}
 
 -- the second list begins with the first
 abbrev pub Begins : {X : Type 0} → List X → List X → Type 0
@@ -35,6 +39,26 @@ pub record Parsed (ws : List Token) (t : Program) : Type 0 where
   pub words : ws ≡ spell t
   pub only : (u : Program) → ws ≡ spell u → u ≡ t
 
--- where the machine of expected words stops, the first word left is one that cannot come, and the words before it can
-abbrev pub Refusals-are-exact : Type 0
-Refusals-are-exact = (ws rest : List Token) → runs (decls ∷ []) ws ≡ Some rest → (before : List Token) × (ws ≡ before ++ rest) × Refused before rest
+-- the place of the first of these words; at the end, `last`
+abbrev pub place-of : ℕ → List Token → ℕ
+place-of last [] = last
+place-of last (w ∷ ws) = w .place
+
+-- a text with these words is a program: its one tree's events are added to the log l, which is m then
+pub record Accepted {X : Type 0} (after : X → Event → X) (ws : List Token) (l m : X) : Type 0 where
+  pub tree : Program
+  pub parsed : Parsed ws tree
+  pub log : m ≡ fed after l (events 0 tree)
+
+-- a text with these words is no program, and p is the place of the first word that cannot come
+pub record RefusedAt (ws : List Token) (last p : ℕ) : Type 0 where
+  pub before : List Token
+  pub rest : List Token
+  pub split : ws ≡ before ++ rest
+  pub refused : Refused before rest
+  pub place : p ≡ place-of last rest
+
+-- what a parse of a text answers, the text's end standing at the place `last`
+abbrev pub Parses : {X : Type 0} → (X → Event → X) → List Token → ℕ → X → Result (Unit {0}) Unexpected → X → Type 0
+Parses after ws last l (Ok _) m = Accepted after ws l m
+Parses after ws last l (Err e) m = RefusedAt ws last (e .place)

@@ -1,9 +1,11 @@
 // Reads a model text from standard input, and prints one line about it.
+use grammar::judge::judge;
+use grammar::sink::Nowhere;
+use grammar::sink::NowhereSink;
 use std::error::AnyError;
 use std::io::Read;
 use words::survey::Extent;
 use words::survey::LONGEST_TEXT;
-use words::survey::survey;
 
 // Reads no more than shows that a text is too long, however much there is.
 fn read_text(rt: &LibcRuntime) -> Result<Vec<u8>, AnyError> {
@@ -16,11 +18,12 @@ fn read_text(rt: &LibcRuntime) -> Result<Vec<u8>, AnyError> {
 
 fn run(rt: &LibcRuntime) -> Result<(), AnyError> {
     let text = read_text(rt)?;
-    match survey(text.as_slice()) {
+    let mut sink = Nowhere;
+    match judge(text.as_slice(), &mut sink) {
         Ok(Extent { words, depth }) => {
             println!(
                 rt,
-                "read {words} words, depth {depth}; grammar, declarations and types not judged yet"
+                "a program of {words} words, depth {depth}; declarations and types not judged yet"
             )?;
         }
         Err(refusal) => {

@@ -21,7 +21,7 @@ pub struct Plain {
 }
 
 impl Plain {
-    pub fn new(heap: Global, slot_limit: u16, even: bool) -> Plain {
+    pub(crate) fn new(heap: Global, slot_limit: u16, even: bool) -> Plain {
         Plain {
             heap,
             cells: Vec::new(heap),
@@ -30,23 +30,23 @@ impl Plain {
         }
     }
 
-    pub fn clear(&mut self) {
+    pub(crate) fn clear(&mut self) {
         self.cells.clear();
     }
 
-    pub fn charge(&self, fields: u8) -> u8 {
+    pub(crate) fn charge(&self, fields: u8) -> u8 {
         if self.even || fields > 8 { 8 } else { fields }
     }
 
-    pub fn cells(&self) -> usize {
+    pub(crate) fn cells(&self) -> usize {
         self.cells.len()
     }
 
-    pub fn slot_limit(&self) -> u16 {
+    pub(crate) fn slot_limit(&self) -> u16 {
         self.slot_limit
     }
 
-    pub fn slots(&self) -> u16 {
+    pub(crate) fn slots(&self) -> u16 {
         let mut sum: u16 = 0;
         for cell in self.cells.iter() {
             let n = u8::try_from(cell.fields.len()).unwrap_or(255);
@@ -55,7 +55,11 @@ impl Plain {
         sum
     }
 
-    pub fn make(&mut self, head: Head, fields: u8) -> Result<Result<u8, MakeRefusal>, AllocError> {
+    pub(crate) fn make(
+        &mut self,
+        head: Head,
+        fields: u8,
+    ) -> Result<Result<u8, MakeRefusal>, AllocError> {
         let cell = self.cells.len();
         if fields > 8 {
             return Ok(Err(MakeRefusal::Fields));
@@ -71,7 +75,7 @@ impl Plain {
         Ok(Ok(cell as u8))
     }
 
-    pub fn put(&mut self, cell: u8, field: u8, value: Value) -> Result<(), Absent> {
+    pub(crate) fn put(&mut self, cell: u8, field: u8, value: Value) -> Result<(), Absent> {
         match self.cells.get_mut(cell as usize) {
             None => Err(Absent::Cell),
             Some(c) => match c.fields.get_mut(field as usize) {
@@ -84,21 +88,21 @@ impl Plain {
         }
     }
 
-    pub fn head(&self, cell: u8) -> Option<Head> {
+    pub(crate) fn head(&self, cell: u8) -> Option<Head> {
         match self.cells.get(cell as usize) {
             None => None,
             Some(c) => Some(c.head),
         }
     }
 
-    pub fn fields(&self, cell: u8) -> Option<u8> {
+    pub(crate) fn fields(&self, cell: u8) -> Option<u8> {
         match self.cells.get(cell as usize) {
             None => None,
             Some(c) => Some(u8::try_from(c.fields.len()).unwrap_or(255)),
         }
     }
 
-    pub fn value(&self, cell: u8, field: u8) -> Result<Value, Absent> {
+    pub(crate) fn value(&self, cell: u8, field: u8) -> Result<Value, Absent> {
         match self.cells.get(cell as usize) {
             None => Err(Absent::Cell),
             Some(c) => match c.fields.get(field as usize) {

@@ -5,12 +5,12 @@ pub struct Random {
 }
 
 impl Random {
-    pub fn new(seed: u64) -> Random {
+    pub(crate) fn new(seed: u64) -> Random {
         Random { state: seed }
     }
 
     // A number below `bound`, or 0 where that is 0.
-    pub fn below(&mut self, bound: u8) -> u8 {
+    pub(crate) fn below(&mut self, bound: u8) -> u8 {
         let mut x = self.state;
         x ^= x.wrapping_shl(13);
         x ^= x >> 7;

@@ -174,7 +174,11 @@ fn ask<S: Store>(store: &S, plain: &Plain, cell: u8, field: u8, tally: &mut Tall
 }
 
 // That many calls, chosen at random, and a question after each.
-pub fn play<S: Store>(store: &mut S, plain: &mut Plain, turns: u32) -> Result<Tally, AllocError> {
+pub(crate) fn play<S: Store>(
+    store: &mut S,
+    plain: &mut Plain,
+    turns: u32,
+) -> Result<Tally, AllocError> {
     let mut tally = Tally::new();
     let mut random = Random::new(20261117);
     for _ in 0..turns {
@@ -201,7 +205,7 @@ pub fn play<S: Store>(store: &mut S, plain: &mut Plain, turns: u32) -> Result<Ta
 }
 
 // For each number of fields: cells until one is refused, and one call past that; then every field of every cell is read.
-pub fn fill<S: Store>(store: &mut S, plain: &mut Plain) -> Result<Tally, AllocError> {
+pub(crate) fn fill<S: Store>(store: &mut S, plain: &mut Plain) -> Result<Tally, AllocError> {
     let mut tally = Tally::new();
     for fields in 0..10u8 {
         store.clear();

@@ -5,7 +5,7 @@ pub struct Dice {
 }
 
 impl Dice {
-    pub fn new(seed: u64) -> Dice {
+    pub(crate) fn new(seed: u64) -> Dice {
         Dice { state: seed }
     }
 
@@ -19,7 +19,7 @@ impl Dice {
     }
 
     // A number below n, or 0 where n is 0.
-    pub fn below(&mut self, n: u8) -> u8 {
+    pub(crate) fn below(&mut self, n: u8) -> u8 {
         if n == 0 {
             return 0;
         }
@@ -27,7 +27,7 @@ impl Dice {
     }
 
     // A number below `few` mostly, and now and then one of the last good number, the one before and the first bad one.
-    pub fn number(&mut self, few: u8, last: u8) -> u8 {
+    pub(crate) fn number(&mut self, few: u8, last: u8) -> u8 {
         if self.below(40) > 0 {
             return self.below(few);
         }

@@ -108,7 +108,7 @@ fn refuses_more<P: PairTable>(table: &mut P) -> bool {
 }
 
 // How many of eight checks hold.
-pub fn limits<P: PairTable>(table: &mut P) -> u32 {
+pub(crate) fn limits<P: PairTable>(table: &mut P) -> u32 {
     table.clear();
     let checks = [
         refuses_past(table) && table.count() == 0,

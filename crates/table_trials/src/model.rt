@@ -11,22 +11,22 @@ pub struct Model {
 }
 
 impl Model {
-    pub fn new(heap: Global, limit: usize) -> Model {
+    pub(crate) fn new(heap: Global, limit: usize) -> Model {
         Model {
             rows: Vec::new(heap),
             limit,
         }
     }
 
-    pub fn clear(&mut self) {
+    pub(crate) fn clear(&mut self) {
         self.rows.clear();
     }
 
-    pub fn count(&self) -> usize {
+    pub(crate) fn count(&self) -> usize {
         self.rows.len()
     }
 
-    pub fn find(&self, relationship: u8, from: u8, to: u8) -> Option<u8> {
+    pub(crate) fn find(&self, relationship: u8, from: u8, to: u8) -> Option<u8> {
         for row in self.rows.iter() {
             if row.relationship == relationship && row.from == from && row.to == to {
                 return Some(row.instance);
@@ -36,7 +36,7 @@ impl Model {
     }
 
     // What the table should answer; the row is added where that is good.
-    pub fn put(&mut self, row: Row) -> Result<Result<(), PutRefusal>, AllocError> {
+    pub(crate) fn put(&mut self, row: Row) -> Result<Result<(), PutRefusal>, AllocError> {
         if row.relationship > 31 {
             return Ok(Err(PutRefusal::BadRelationship));
         }
@@ -53,7 +53,7 @@ impl Model {
         Ok(Ok(()))
     }
 
-    pub fn drop_row(&mut self, relationship: u8, from: u8, to: u8) -> Option<u8> {
+    pub(crate) fn drop_row(&mut self, relationship: u8, from: u8, to: u8) -> Option<u8> {
         for i in 0..self.rows.len() {
             let row = self.rows[i];
             if row.relationship == relationship && row.from == from && row.to == to {
@@ -65,12 +65,12 @@ impl Model {
     }
 
     // Whether a row of the relationship from the cell leads to `to`.
-    pub fn leads_to(&self, relationship: u8, from: u8, to: u8) -> bool {
+    pub(crate) fn leads_to(&self, relationship: u8, from: u8, to: u8) -> bool {
         self.find(relationship, from, to).is_some()
     }
 
     // Whether a row of the relationship from the cell has the instance.
-    pub fn has_instance(&self, relationship: u8, from: u8, instance: u8) -> bool {
+    pub(crate) fn has_instance(&self, relationship: u8, from: u8, instance: u8) -> bool {
         for row in self.rows.iter() {
             if row.relationship == relationship && row.from == from && row.instance == instance {
                 return true;

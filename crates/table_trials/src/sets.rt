@@ -83,7 +83,7 @@ fn joins(after: CellSet, before: CellSet, cell: u8) -> bool {
 }
 
 // How many of the steps had a wrong set.
-pub fn sets(heap: Global, seed: u64, steps: u32) -> Result<u32, AllocError> {
+pub(crate) fn sets(heap: Global, seed: u64, steps: u32) -> Result<u32, AllocError> {
     let mut dice = Dice::new(seed);
     let mut set = CellSet::empty();
     let mut members = Members {

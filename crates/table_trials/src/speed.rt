@@ -85,7 +85,11 @@ fn prepared<P: PairTable>(
 }
 
 // Prints the speeds at 0, 128 and 256 rows, and again after a million puts and drops.
-pub fn speeds<P: PairTable>(rt: &LibcRuntime, name: &str, table: &mut P) -> Result<(), AnyError> {
+pub(crate) fn speeds<P: PairTable>(
+    rt: &LibcRuntime,
+    name: &str,
+    table: &mut P,
+) -> Result<(), AnyError> {
     let mut dice = Dice::new(88172645463325252);
     for worn in [false, true] {
         for rows in [0u16, 128, 256] {

@@ -98,7 +98,7 @@ fn step<P: PairTable>(
 }
 
 // Fills and empties the table by turns, and clears it now and then.
-pub fn trial<P: PairTable>(
+pub(crate) fn trial<P: PairTable>(
     heap: Global,
     table: &mut P,
     seed: u64,
