@@ -19,7 +19,7 @@ use Rattle.grammar.specs.Machine.{Sym, word, start, typed as type-symbol, decl
 use Rattle.grammar.specs.Told.{rest, placeAt, Leads, Fails}
 use Rattle.grammar.specs.Trees.{Mark, tok, Sort, Tree, place, many, action, stmt, typed, variable, method, decl, Program, spell}
 
--- from p to q the words ws are passed, and es is added to the log
+-- from p to q the words ws are passed, and the events es take the sink from l to m, where `after` says what each does
 pub record Path {X : Type 0} (after : X → Event → X) (p : Parser) (l : X) (q : Parser) (m : X) (ws : List Token) (es : List Event) : Type 0 where
   pub words : rest p ≡ ws ++ rest q
   pub log : m ≡ fed after l es

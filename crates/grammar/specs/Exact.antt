@@ -44,7 +44,7 @@ abbrev pub place-of : ℕ → List Token → ℕ
 place-of last [] = last
 place-of last (w ∷ ws) = w .place
 
--- a text with these words is a program: its one tree's events are added to the log l, which is m then
+-- a text with these words is a program, and its one tree's events take the sink from l to m
 pub record Accepted {X : Type 0} (after : X → Event → X) (ws : List Token) (l m : X) : Type 0 where
   pub tree : Program
   pub parsed : Parsed ws tree

@@ -92,7 +92,7 @@ Takes k p (Err e) q = Fails p (word k) e
 abbrev pub Leads : Parser → Sym → Parser → (List Sym → List Sym) → Type 0
 Leads p γ q δ = (α : List Sym) → runs (γ ∷ α) (rest p) ≡ runs (δ α) (rest q)
 
--- from p to q the words ws are passed, and es is added to the log
+-- from p to q the words ws are passed, and the events es take the sink from l to m, where `after` says what each does
 pub record Walk {X : Type 0} (after : X → Event → X) (p : Parser) (l : X) (q : Parser) (m : X) (ws : List Token) (es : List Event) : Type 0 where
   pub words : rest p ≡ ws ++ rest q
   pub log : m ≡ fed after l es
