@@ -5,7 +5,7 @@ use mathlib.Core.Logic.{inl, inr}
 use Prim.Native.Nat.{ℕ, zero, suc, _+_, _<_}
 use native.Mathlib.Omega.{arith}
 use lib.Dec.{ltb}
-use lib.ListN.{length, set, replicate, length-set, length-replicate}
+use lib.ListN.{length, set, replicate, length-append, length-set, length-replicate}
 use Rattle.std.specs.declared.option.Option.{Option}
 use Rattle.std.specs.declared.option.Option.the-variants.{Some, None}
 use Rattle.std.specs.declared.result.Result.{Result}
@@ -132,6 +132,7 @@ module _ (m : Model) (c f : ℕ) (v : Value) where
         counts = kept-in fieldsIn (λ z. ap Some (length-set (z .fields) f v)) y (x .at-cell);
         cells = length-changed (m .cells) c f v;
         rows = rows-kept m (holding m (changed (m .cells) c f v)) (λ d h. kept-in headIn (λ z. refl) y (x .at-cell) d);
+        fixed = refl;
       }
 
 module _ (m : Model) (h : Head) (n : ℕ) where
@@ -150,17 +151,15 @@ module _ (m : Model) (h : Head) (n : ℕ) where
             simp (e, p, q);
         heads = λ d k. let o = nth-old (m .cells) (newCell h n) d k in simp o;
         fields = λ d f k. let o = nth-old (m .cells) (newCell h n) d k in simp o;
+        cells = length-append (m .cells) (newCell h n ∷ []);
         rows = rows-kept m (holding m (m .cells ++ (newCell h n ∷ []))) (λ d k. let o = nth-old (m .cells) (newCell h n) d k in simp o);
+        fixed = refl;
       }
 
 -- what an answer of put says of the field
 pub done-ok : (o : Result Value Absent) (u : Unit {0}) → done o ≡ Ok u → (w : Value) × (o ≡ Ok w)
 done-ok (Ok w) u e = (w, refl)
 done-ok (Err x) u e = let z : _≡_ {A = ℕ} 0 1 = cc in absurd (omega arith)
-
-pub done-err : (o : Result Value Absent) (x : Absent) → done o ≡ Err x → o ≡ Err x
-done-err (Ok w) x e = let z : _≡_ {A = ℕ} 0 1 = cc in absurd (omega arith)
-done-err (Err y) x e = let p : y ≡ x = cc in ap Err p
 
 -- what an answer of make says of the number
 pub make-number : (m : Model) (n c : ℕ) → makeAnswer m n ≡ Ok c → c ≡ length (m .cells)

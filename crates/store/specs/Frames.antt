@@ -10,9 +10,9 @@ use Rattle.values.specs.declared.value.Value.{Value}
 use Rattle.values.specs.declared.value.Value.the-variants.{Null}
 use Rattle.store.specs.declared.cell.Head.{Head}
 use Rattle.store.specs.Rows.{KeepsRows}
-use Rattle.store.specs.Model.{Model, afterMake, fieldAt, fieldsAt, headAt, makeAnswer, slotsOf}
+use Rattle.store.specs.Model.{Model, afterMake, fieldAt, fieldsAt, headAt, holding, makeAnswer, slotsOf}
 
--- one field is changed: it holds v afterwards, and every other field, head and number is as it was
+-- one field is changed: it holds v afterwards, and every other field, head and number is as it was, limits and charge too
 pub record OneField (before after : Model) (c f : ℕ) (v : Value) : Type 0 where
   pub reads : fieldAt after c f ≡ Ok v
   pub others : (d g : ℕ) → (d ≡ c → g ≡ f → ⊥) → fieldAt after d g ≡ fieldAt before d g
@@ -20,8 +20,10 @@ pub record OneField (before after : Model) (c f : ℕ) (v : Value) : Type 0 wher
   pub counts : (d : ℕ) → fieldsAt after d ≡ fieldsAt before d
   pub cells : length (after .cells) ≡ length (before .cells)
   pub rows : KeepsRows before after
+  pub fixed : after ≡ holding before (after .cells)
 
--- one cell is new: it comes after the others, with its head and n null fields, and the others are as they were
+-- one cell is new and no more: it comes after the others, with its head and n null fields, and the others are as they
+-- were, limits and charge too
 pub record OneCell (before after : Model) (h : Head) (n c : ℕ) : Type 0 where
   pub next : c ≡ length (before .cells)
   pub head : headAt after c ≡ Some h
@@ -29,7 +31,9 @@ pub record OneCell (before after : Model) (h : Head) (n c : ℕ) : Type 0 where
   pub nulls : (f : ℕ) → f < n → fieldAt after c f ≡ Ok Null
   pub heads : (d : ℕ) → d < c → headAt after d ≡ headAt before d
   pub fields : (d f : ℕ) → d < c → fieldAt after d f ≡ fieldAt before d f
+  pub cells : length (after .cells) ≡ length (before .cells) + 1
   pub rows : KeepsRows before after
+  pub fixed : after ≡ holding before (after .cells)
 
 -- room for k cells more that are charged s slots together
 unfoldable pub hasRoom : Model → ℕ → ℕ → Bool
