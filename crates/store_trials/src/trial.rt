@@ -133,24 +133,27 @@ fn make<S: Store>(
     head: Head,
     fields: u8,
     tally: &mut Tally,
-) -> Result<bool, AllocError> {
+) -> Result<(), AllocError> {
     let a = store.make(head, fields);
     let b = plain.make(head, fields)?;
     tally.judge(same_made(a, b));
-    let good = a.is_ok();
-    if good {
+    if a.is_ok() {
         tally.made = tally.made.wrapping_add(1);
     } else {
         tally.refused = tally.refused.wrapping_add(1);
     }
-    Ok(good)
+    Ok(())
 }
 
 // Writes a field in both.
-fn put<S: Store>(store: &mut S, plain: &mut Plain, random: &mut Random, tally: &mut Tally) {
-    let cell = random.below(140);
-    let field = random.below(10);
-    let value = some_value(random);
+fn put<S: Store>(
+    store: &mut S,
+    plain: &mut Plain,
+    cell: u8,
+    field: u8,
+    value: Value,
+    tally: &mut Tally,
+) {
     let a = store.put(cell, field, value);
     let b = plain.put(cell, field, value);
     tally.judge(same_put(a, b));
@@ -189,9 +192,12 @@ pub(crate) fn play<S: Store>(
         } else if choice < 60 {
             let head = some_head(&mut random);
             let fields = random.below(10);
-            let _ = make(store, plain, head, fields, &mut tally)?;
+            make(store, plain, head, fields, &mut tally)?;
         } else {
-            put(store, plain, &mut random, &mut tally);
+            let cell = random.below(140);
+            let field = random.below(10);
+            let value = some_value(&mut random);
+            put(store, plain, cell, field, value, &mut tally);
         }
         ask(
             store,
@@ -204,14 +210,22 @@ pub(crate) fn play<S: Store>(
     Ok(tally)
 }
 
-// For each number of fields: cells until one is refused, and one call past that; then every field of every cell is read.
+// For each number of fields: more cells than there is room for; then every field of every cell is written, and after
+// that every one is read.
 pub(crate) fn fill<S: Store>(store: &mut S, plain: &mut Plain) -> Result<Tally, AllocError> {
     let mut tally = Tally::new();
+    let mut random = Random::new(20261118);
     for fields in 0..10u8 {
         store.clear();
         plain.clear();
         for class in 0..130u8 {
-            let _ = make(store, plain, Head::Object { class }, fields, &mut tally)?;
+            make(store, plain, Head::Object { class }, fields, &mut tally)?;
+        }
+        for cell in 0..130u8 {
+            for field in 0..10u8 {
+                let value = some_value(&mut random);
+                put(store, plain, cell, field, value, &mut tally);
+            }
         }
         for cell in 0..130u8 {
             for field in 0..10u8 {
