@@ -4,7 +4,6 @@
 It is written for clarity and not for speed, and nothing in it is proved.
 
     oracle.py < model.relj           judge and run: END STEPS CELLS ROWS, or REFUSAL PLACE
-    oracle.py --words < model.relj   words and brackets alone
     oracle.py --check < model.relj   judge alone, and print the counts of an accepted text
     oracle.py --self-test            the runs that are known by hand
 
@@ -41,7 +40,7 @@ class Refusal(Exception):
 
 # ---------------------------------------------------------------- words
 
-KEPT = {
+KEYWORDS = {
     "class", "extends", "relationship", "boolean", "set", "return", "if", "else",
     "true", "false", "null", "this", "new", "add", "rem", "from", "to",
 }
@@ -50,7 +49,7 @@ NAME, END = "name", "end"
 
 
 class Word(NamedTuple):
-    kind: str           # NAME, END, or the kept word or sign itself
+    kind: str           # NAME, END, or the keyword or sign itself
     text: str
     place: int
 
@@ -77,7 +76,7 @@ def words(text):
             if end - at > MAX_NAME:
                 raise Refusal(11, at)
             w = text[at:end].decode("ascii")
-            out.append(Word(w if w in KEPT else NAME, w, at))
+            out.append(Word(w if w in KEYWORDS else NAME, w, at))
             at = end
         elif b < 128 and chr(b) in SIGNS:
             sign = "==" if text[at:at + 2] == b"==" else chr(b)
@@ -361,7 +360,7 @@ class Parser:
         return grown("call", "call", name, argument)
 
     def relation(self, name):
-        """The rest of W.add(a, b) or W.rem(a, b) from the kept word on."""
+        """The rest of W.add(a, b) or W.rem(a, b) from the keyword on."""
         kind = self.kind
         self.take(kind)
         self.take("(")
@@ -1058,18 +1057,6 @@ def console(text):
     return f"{end} {steps} {cells} {rows}"
 
 
-def words_only(text):
-    """What can be said of a text from its words alone."""
-    try:
-        if len(text) > MAX_TEXT:
-            raise Refusal(10, 0)
-        ws = words(text)
-        return (f"read {len(ws)} words, depth {depth(ws)}; "
-                "grammar, declarations and types not judged yet")
-    except Refusal as r:
-        return f"{r.number} {r.place}"
-
-
 def check_only(text):
     try:
         c = check(text).counts()
@@ -1135,9 +1122,11 @@ def self_test():
 def main(arguments):
     if arguments == ["--self-test"]:
         return self_test()
-    judge = {"--words": words_only, "--check": check_only}
-    text = sys.stdin.buffer.read()
-    print((judge[arguments[0]] if arguments else console)(text))
+    if arguments not in ([], ["--check"]):
+        print(__doc__, file=sys.stderr)
+        return 2
+    judge = check_only if arguments else console
+    print(judge(sys.stdin.buffer.read()))
     return 0
 
 

@@ -94,9 +94,9 @@ NAMES = [
 DIGITS = ["0", "9", "9a", "a9", "a 9", "a.9", "_9", "9_", "_9 9_", "12", "a12b", "1.0", "0x1f", "a-1", "33*9", "x=1", "x==1", "(1", "f(0)", "a\\0a9"]
 
 
-def kept_words():
-    """Each kept word alone, with one letter more or fewer, in capitals, and with a word beside it."""
-    for w in sorted(oracle.KEPT):
+def keywords():
+    """Each keyword alone, with one letter more or fewer, in capitals, and with a word beside it."""
+    for w in sorted(oracle.KEYWORDS):
         yield from (w, w[:-1], w[1:], w + "s", "a" + w, w + "_", w + "9", "9" + w, w.upper(), w.capitalize())
         yield from (w + w, f"{w} {w}", f"{w}.{w}", f"{w}(", f"{w}#")
 
@@ -179,7 +179,7 @@ def models():
 def chances():
     """Texts of pieces drawn by chance, of three mixtures, always the same."""
     draw = random.Random(1)
-    words = sorted(w.encode() for w in oracle.KEPT) + [b"a", b"B_1", b"_", b"n" * 31]
+    words = sorted(w.encode() for w in oracle.KEYWORDS) + [b"a", b"B_1", b"_", b"n" * 31]
     signs = [bytes([b]) for b in b"{}(),;<>.:="] + [b"=="]
     gaps = [b" ", b"\n", b"\t", b"\r"]
     faults = [b"#", b"9", b"\xff", b"\x0b", b"n" * 32]
@@ -196,7 +196,7 @@ def grammar_texts():
 
 def all_cases():
     lines = [
-        *single_bytes(), *SEPARATORS, *NO_TEXT, *NAMES, *DIGITS, *kept_words(), *SIGNS, *BRACKETS, *RANKS, *sizes(), *models(), *chances(), *grammar_texts(),
+        *single_bytes(), *SEPARATORS, *NO_TEXT, *NAMES, *DIGITS, *keywords(), *SIGNS, *BRACKETS, *RANKS, *sizes(), *models(), *chances(), *grammar_texts(),
     ]
     return list(dict.fromkeys(lines))
 

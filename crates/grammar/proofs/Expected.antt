@@ -23,7 +23,7 @@ unfolding runs
 same-runs α β [] e h = ap (λ b. cond b None (Some [])) e
 same-runs α β (w ∷ ws) e h = ap (λ o. either o (Some (w ∷ ws)) (λ γ. runs γ ws)) (h w ws refl)
 
--- a type that begins with no kept word is a name
+-- a type that begins with no keyword is a name
 pub typed-name : (α : List Sym) (ws : List Token) → (kindAt ws ≡ Some kind.Boolean → ⊥) → (kindAt ws ≡ Some kind.Set → ⊥) → runs (typed ∷ α) ws ≡ runs (word kind.Name ∷ α) ws
 unfolding runs step ends type-then
 typed-name α [] nb ns = refl

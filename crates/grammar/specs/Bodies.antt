@@ -161,13 +161,14 @@ abbrev pub GivesInside : {X : Type 0} → (X → Event → X) → Parser → X �
 GivesInside after p l (Ok _) q m = ReadInside after p l q m
 GivesInside after p l (Err e) q m = FailsAll p (λ α. word kind.OpenBrace ∷ members true ∷ word kind.CloseBrace ∷ α) e
 
--- fields, and where `b` is false methods after them, are read, and more may come
+-- fields and then methods are read, and methods may still come
 pub record ReadBoth {X : Type 0} (after : X → Event → X) (p : Parser) (l : X) (q : Parser) (m : X) : Type 0 where
   pub fields : Tree (many variable)
   pub methods : Tree (many method)
   pub path : Path after p l q m (spell fields ++ spell methods) (events 0 fields ++ events 0 methods)
   pub leads : Leads p (members true) q (λ α. members false ∷ α)
 
+-- fields alone are read, and fields may still come; or fields and then methods
 abbrev pub Gathered : {X : Type 0} → (X → Event → X) → Bool → Parser → X → Parser → X → Type 0
 Gathered after true p l q m = ReadTree after (many variable) p l q m (members true) (λ α. members true ∷ α)
 Gathered after false p l q m = ReadBoth after p l q m

@@ -1,4 +1,4 @@
--- What is reported of a tree, in the order of its words.
+-- What is reported of a tree: parts before the whole, from the left.
 use mathlib.Core.List.{List, [], _∷_, _++_}
 use Prim.Native.Nat.{ℕ}
 use Rattle.grammar.specs.declared.event.Literal.{Literal as Value}

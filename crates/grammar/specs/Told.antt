@@ -45,7 +45,7 @@ abbrev pub seen : Kind → List Token → Bool
 seen k [] = false
 seen k (w ∷ ws) = is k (w .kind)
 
--- whether a variable is declared next: a kept word begins its type, or two names come
+-- whether a variable is declared next: a keyword begins its type, or two names come
 abbrev pub variable-begins : List Token → Bool
 variable-begins [] = false
 variable-begins (w ∷ ws) = is kind.Boolean (w .kind) || (is kind.Set (w .kind) || (is kind.Name (w .kind) && seen kind.Name ws))

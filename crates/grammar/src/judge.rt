@@ -38,7 +38,7 @@ impl TextRefusal {
 }
 
 // Judges a text by its size, its words, its brackets and its grammar, in this order, and reports a program to the sink.
-// A text that cannot be read leaves the sink as it was.
+// A text that cannot be read leaves the sink as it was; after a word that cannot come nothing is promised of it.
 pub fn judge<S: Sink>(text: &[u8], sink: &mut S) -> Result<Extent, TextRefusal>
     ensures { λ r. ⌜ Judged (S·Sink .after) (now (text .entry)) (now (sink .entry)) r (now (sink .exit)) ⌝ }
 {

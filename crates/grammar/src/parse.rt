@@ -6,9 +6,9 @@ pub use crate::parser::reading::Unexpected;
 use crate::sink::Sink;
 
 // Reads a text as a program, and reports it: accepted exactly where the text's words are those of a tree, which is then
-// the only one, and else refused at the first word that cannot come. After a refusal the sink has some events of the
-// words before it.
-pub fn parse<S: Sink>(text: &[u8], sink: &mut S) -> Result<(), Unexpected>
+// the only one, and else refused at the first word that cannot come. After a refusal nothing is promised of the sink.
+// Brackets are read by recursion, so whoever calls this bounds their depth first.
+pub(crate) fn parse<S: Sink>(text: &[u8], sink: &mut S) -> Result<(), Unexpected>
     ensures { λ r. ⌜ Parses (S·Sink .after) (words (now (text .entry))) (length (now (text .entry))) (now (sink .entry)) r (now (sink .exit)) ⌝ }
 {
     let mut parser = Parser::new(text);

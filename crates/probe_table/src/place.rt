@@ -3,7 +3,7 @@ use pairs::row::Row;
 
 #[derive(Clone, Copy)]
 pub enum Place {
-    // held no row since the table was made
+    // held no row since the rows were last laid out
     Free,
     // held a row that was dropped
     Dropped,

@@ -1,4 +1,4 @@
 pub mod Cutting
 pub mod Fronts
-pub mod Kept
+pub mod Keywords
 pub mod Surveying

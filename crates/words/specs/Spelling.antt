@@ -21,49 +21,49 @@ use Rattle.words.specs.Kinds.{is}
 abbrev pub front : Kind → ℕ → Front
 front k n = record { kind = k; size = n }
 
--- a kept word and its kind
-pub record Kept : Type 0 where
+-- a keyword and its kind
+pub record Keyword : Type 0 where
   pub bytes : List ℕ
   pub kind : Kind
 
-abbrev pub kept : List ℕ → Kind → Kept
-kept bs k = record { bytes = bs; kind = k }
+abbrev pub keyword : List ℕ → Kind → Keyword
+keyword bs k = record { bytes = bs; kind = k }
 
 -- the words that are never names
-abbrev pub kept-words : List Kept
-kept-words =
-    kept (codes "if") kind.If
-    ∷ kept (codes "to") kind.To
-    ∷ kept (codes "set") kind.Set
-    ∷ kept (codes "new") kind.New
-    ∷ kept (codes "add") kind.Add
-    ∷ kept (codes "rem") kind.Rem
-    ∷ kept (codes "else") kind.Else
-    ∷ kept (codes "true") kind.True
-    ∷ kept (codes "null") kind.Null
-    ∷ kept (codes "this") kind.This
-    ∷ kept (codes "from") kind.From
-    ∷ kept (codes "class") kind.Class
-    ∷ kept (codes "false") kind.False
-    ∷ kept (codes "return") kind.Return
-    ∷ kept (codes "extends") kind.Extends
-    ∷ kept (codes "boolean") kind.Boolean
-    ∷ kept (codes "relationship") kind.Relationship
+abbrev pub keywords : List Keyword
+keywords =
+    keyword (codes "if") kind.If
+    ∷ keyword (codes "to") kind.To
+    ∷ keyword (codes "set") kind.Set
+    ∷ keyword (codes "new") kind.New
+    ∷ keyword (codes "add") kind.Add
+    ∷ keyword (codes "rem") kind.Rem
+    ∷ keyword (codes "else") kind.Else
+    ∷ keyword (codes "true") kind.True
+    ∷ keyword (codes "null") kind.Null
+    ∷ keyword (codes "this") kind.This
+    ∷ keyword (codes "from") kind.From
+    ∷ keyword (codes "class") kind.Class
+    ∷ keyword (codes "false") kind.False
+    ∷ keyword (codes "return") kind.Return
+    ∷ keyword (codes "extends") kind.Extends
+    ∷ keyword (codes "boolean") kind.Boolean
+    ∷ keyword (codes "relationship") kind.Relationship
     ∷ []
 
--- the kind that a list of kept words gives to these bytes, else a name
-abbrev pub among : List Kept → List ℕ → Kind
+-- the kind that a list of keywords gives to these bytes, else a name
+abbrev pub among : List Keyword → List ℕ → Kind
 among [] bs = kind.Name
 among (w ∷ ws) bs = cond (sameBytes bs (w .bytes)) (w .kind) (among ws bs)
 
--- the kept words whose size passes a test
-abbrev pub of-size : (ℕ → Bool) → List Kept → List Kept
+-- the keywords whose size passes a test
+abbrev pub of-size : (ℕ → Bool) → List Keyword → List Keyword
 of-size p [] = []
 of-size p (w ∷ ws) = cond (p (length (w .bytes))) (w ∷ of-size p ws) (of-size p ws)
 
--- what a run of letters, digits and underscores is: over 31 bytes no word at all, else a kept word or a name
+-- what a run of letters, digits and underscores is: over 31 bytes no word at all, else a keyword or a name
 abbrev pub named : List ℕ → Kind
-named bs = cond (ltb 31 (length bs)) kind.Fault (among kept-words bs)
+named bs = cond (ltb 31 (length bs)) kind.Fault (among keywords bs)
 
 -- whether the second byte is an equals sign
 abbrev pub equals-second : List ℕ → Bool

@@ -1,4 +1,4 @@
-// The reader of words: cuts a model text into names, kept words and signs.
+// The reader of words: cuts a model text into names, keywords and signs.
 mod bytes;
 pub mod cursor;
 pub mod kind;

@@ -2,7 +2,7 @@ ghost use mathlib.Core.Path.{_≡_};
 ghost use lib.Dec.{eqb, ltb};
 ghost use Rattle.std.specs.shelf.Text.{sameBytes};
 ghost use Rattle.words.specs.declared.bytes.Begins.the-variants.{Sign};
-ghost use Rattle.words.specs.Spelling.{among, kept-words, of-size, named, begun, front-of};
+ghost use Rattle.words.specs.Spelling.{among, keywords, of-size, named, begun, front-of};
 use crate::bytes::Begins;
 use crate::bytes::NameBytes;
 use crate::bytes::NameBytesClass;
@@ -19,8 +19,8 @@ fn same(a: &[u8], b: &[u8]) -> bool
     a == b
 }
 
-fn kept_of_two(bytes: &[u8]) -> Kind
-    ensures { λ r. ⌜ r ≡ among (of-size (eqb 2) kept-words) (now (bytes .entry)) ⌝ }
+fn keyword_of_two(bytes: &[u8]) -> Kind
+    ensures { λ r. ⌜ r ≡ among (of-size (eqb 2) keywords) (now (bytes .entry)) ⌝ }
 {
     if same(bytes, b"if") {
         Kind::If
@@ -31,8 +31,8 @@ fn kept_of_two(bytes: &[u8]) -> Kind
     }
 }
 
-fn kept_of_three(bytes: &[u8]) -> Kind
-    ensures { λ r. ⌜ r ≡ among (of-size (eqb 3) kept-words) (now (bytes .entry)) ⌝ }
+fn keyword_of_three(bytes: &[u8]) -> Kind
+    ensures { λ r. ⌜ r ≡ among (of-size (eqb 3) keywords) (now (bytes .entry)) ⌝ }
 {
     if same(bytes, b"set") {
         Kind::Set
@@ -47,8 +47,8 @@ fn kept_of_three(bytes: &[u8]) -> Kind
     }
 }
 
-fn kept_of_four(bytes: &[u8]) -> Kind
-    ensures { λ r. ⌜ r ≡ among (of-size (eqb 4) kept-words) (now (bytes .entry)) ⌝ }
+fn keyword_of_four(bytes: &[u8]) -> Kind
+    ensures { λ r. ⌜ r ≡ among (of-size (eqb 4) keywords) (now (bytes .entry)) ⌝ }
 {
     if same(bytes, b"else") {
         Kind::Else
@@ -65,9 +65,9 @@ fn kept_of_four(bytes: &[u8]) -> Kind
     }
 }
 
-// The kept words of five letters and more.
-fn kept_of_more(bytes: &[u8]) -> Kind
-    ensures { λ r. ⌜ r ≡ among (of-size (ltb 4) kept-words) (now (bytes .entry)) ⌝ }
+// The keywords of five letters and more.
+fn keyword_of_more(bytes: &[u8]) -> Kind
+    ensures { λ r. ⌜ r ≡ among (of-size (ltb 4) keywords) (now (bytes .entry)) ⌝ }
 {
     if same(bytes, b"class") {
         Kind::Class
@@ -86,16 +86,16 @@ fn kept_of_more(bytes: &[u8]) -> Kind
     }
 }
 
-// The kept word that these bytes spell, else a name.
-fn kept_or_name(bytes: &[u8]) -> Kind
-    ensures { λ r. ⌜ r ≡ among kept-words (now (bytes .entry)) ⌝ }
+// The keyword that these bytes spell, else a name.
+fn keyword_or_name(bytes: &[u8]) -> Kind
+    ensures { λ r. ⌜ r ≡ among keywords (now (bytes .entry)) ⌝ }
 {
     match bytes.len() {
         0..=1 => Kind::Name,
-        2 => kept_of_two(bytes),
-        3 => kept_of_three(bytes),
-        4 => kept_of_four(bytes),
-        _ => kept_of_more(bytes),
+        2 => keyword_of_two(bytes),
+        3 => keyword_of_three(bytes),
+        4 => keyword_of_four(bytes),
+        _ => keyword_of_more(bytes),
     }
 }
 
@@ -106,7 +106,7 @@ fn name_kind(bytes: &[u8]) -> Kind
     if bytes.len() > LONGEST_NAME {
         Kind::Fault
     } else {
-        kept_or_name(bytes)
+        keyword_or_name(bytes)
     }
 }
 

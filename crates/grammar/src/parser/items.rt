@@ -98,7 +98,7 @@ impl<'a> Parser<'a> {
         }
     }
 
-    // The rest of `name.add(..)` or `name.rem(..)` from that kept word on.
+    // The rest of `name.add(..)` or `name.rem(..)` from that keyword on.
     fn pair<S: Sink>(
         &mut self,
         pairing: Pairing,

@@ -81,7 +81,7 @@ impl<'a> Parser<'a> {
         }
     }
 
-    // Whether a variable's declaration comes next: a kept word that begins a type, or two names.
+    // Whether a variable's declaration comes next: a keyword that begins a type, or two names.
     pub(crate) fn at_variable(&self) -> bool
         ensures { λ r. ⌜ r ≡ variable-begins (rest (now (self .entry))) ⌝ }
     {

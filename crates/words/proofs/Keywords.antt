@@ -1,4 +1,4 @@
--- Only the kept words of its own size can be a word.
+-- Only the keywords of its own size can be a word.
 use mathlib.Core.Path.{_≡_, refl, sym, ap, _∙_}
 use mathlib.Core.Bool.{Bool, true, false, cond}
 use mathlib.Core.Logic.{inl, inr}
@@ -9,9 +9,9 @@ use lib.ListN.{length}
 use Rattle.std.proofs.shelf.Equals.{sameBytes-decides}
 use Rattle.std.proofs.shelf.Tests.{cases-bool}
 use Rattle.std.specs.shelf.Text.{sameBytes}
-use Rattle.words.specs.Spelling.{Kept, among, of-size}
+use Rattle.words.specs.Spelling.{Keyword, among, of-size}
 
-pub by-size : (p : ℕ → Bool) (ws : List Kept) (bs : List ℕ) → p (length bs) ≡ true → among ws bs ≡ among (of-size p ws) bs
+pub by-size : (p : ℕ → Bool) (ws : List Keyword) (bs : List ℕ) → p (length bs) ≡ true → among ws bs ≡ among (of-size p ws) bs
 by-size p [] bs e = refl
 by-size p (w ∷ ws) bs e =
     elim (cases-bool (p (length (w .bytes)))) [
