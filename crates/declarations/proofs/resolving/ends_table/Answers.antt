@@ -8,5 +8,5 @@ returns c =
     let n = few_listed c.args.outline.now.relationships in
     simp (← e) (fill_tabulated _ _ _ _ _ c.new-ends.ensures (omega (arith, n, e)) c.fill.ensures)
 
-pub overflow-add-len : goal.overflow-add-len
-overflow-add-len c = let n = few_listed c.args.outline.now.relationships in let e = c.len.ensures in let h : c.len.result ≤ 31 = omega (arith, n, e) in search rules
+pub overflow_add-len : goal.overflow_add-len
+overflow_add-len c = let n = few_listed c.args.outline.now.relationships in let e = c.len.ensures in let h : c.len.result ≤ 31 = omega (arith, n, e) in search rules

@@ -7,11 +7,11 @@ use Rattle.declarations.proofs.rows.row_among.Goals as goal
 below : (c : goal.In-Some) → c.in-Some.i < 31
 below c = let n = few_listed c.args.rows.now in let h = (first_passes _ _ _ (sym c.in-Some.ensures)).0 in omega (arith, h, n, c.len.ensures)
 
-pub overflow-add-result : goal.overflow-add-result
-overflow-add-result c = let h = below c in search rules
+pub overflow_add-result : goal.overflow_add-result
+overflow_add-result c = let h = below c in search rules
 
-pub overflow-cast-result : goal.overflow-cast-result
-overflow-cast-result c = let h = below c in search rules
+pub overflow_cast-result : goal.overflow_cast-result
+overflow_cast-result c = let h = below c in search rules
 
 pub returns-in-None : goal.returns-in-None
 unfolding row_among

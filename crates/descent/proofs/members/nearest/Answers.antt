@@ -17,13 +17,13 @@ loop-m-preserved g c =
     let l = c.rows.ensures.line in
     let p = c.in-Some-parent.ensures in
     let m = parent_smaller l p in
-    passed_more l c.loop-m.invariant c.in-default.ensures p (omega (arith, p.there))
+    passed_more l c.loop-m.invariant c.in_default.ensures p (omega (arith, p.there))
 
 pub returns-in-None : goal.returns-in-None
 returns-in-None g c =
     let l = c.rows.ensures.line in
     let s = c.loop-m.invariant in
-    let f = passed_all l s c.in-default.ensures (root_from l c.loop-m.at (ends s.upward) c.in-None.ensures) in
+    let f = passed_all l s c.in_default.ensures (root_from l c.loop-m.at (ends s.upward) c.in-None.ensures) in
     record { found = f; same = nearest_same_as _ _ l c.args.row None f }
 
 pub returns-in-Some : goal.returns-in-Some

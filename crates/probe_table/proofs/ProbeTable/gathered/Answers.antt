@@ -6,7 +6,7 @@ use Rattle.probe_table.proofs.Probing.{next_row, held_nil, held_next_row, held_n
 use Rattle.pairs.proofs.Gathering.{gathered_none, gathered_more, gathered_past}
 use Rattle.pairs.specs.Gathering.{Gathered}
 use Rattle.probe_table.proofs.ProbeTable.gathered.Goals as goal
-use Rattle.probe_table.proofs.ProbeTable.gathered.Goals.{in-Held+then-leaves, in-Held+else-leaves, in-default}
+use Rattle.probe_table.proofs.ProbeTable.gathered.Goals.{in-Held+then-leaves, in-Held+else-leaves, in_default}
 
 pub loop-p-init : goal.loop-p-init
 loop-p-init c =
@@ -35,9 +35,9 @@ loop-p-preserved c =
           let more = held_next_row self.places p row (omega arith) w.in-Held.is in
           subst (λ s. At (held (take (p + 1) self.places)) s) (sym w.found-is) (subst (λ x. At x so_far) (sym more)
           (gathered_past c.args.asked r f rows row so_far c.loop-p.invariant (sym w.leaves.ensures ∙ w.if-leaves.false)))
-      | in-default w ↦
+      | in_default w ↦
           subst (λ s. At (held (take (p + 1) self.places)) s) (sym w.found-is)
-          (subst (λ x. At x so_far) (sym (held_next_none self.places p (omega arith) (not_held _ w.in-default.not-Held))) c.loop-p.invariant)
+          (subst (λ x. At x so_far) (sym (held_next_none self.places p (omega arith) (not_held _ w.in_default.not-Held))) c.loop-p.invariant)
     ]
 
 pub returns : goal.returns

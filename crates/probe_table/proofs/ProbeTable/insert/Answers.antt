@@ -3,14 +3,14 @@ use Rattle.probe_table.specs.declared.place.Place.TheVariants.{Held}
 use Rattle.probe_table.proofs.Probing.{grown_place, used_set, reached_put}
 use Rattle.probe_table.proofs.ProbeTable.insert.Goals as goal
 
-pub offset-bounds-self-place : goal.offset-bounds-self-place
-offset-bounds-self-place c = omega arith
+pub offset_bounds-self-place : goal.offset_bounds-self-place
+offset_bounds-self-place c = omega arith
 
 pub bounds-self-place : goal.bounds-self-place
 bounds-self-place c = omega arith
 
-pub invariant-of-self : goal.invariant-of-self
-invariant-of-self c =
+pub invariant_of-self : goal.invariant_of-self
+invariant_of-self c =
     let self = c.args.self.now in
     let to = c.room-place.ensures in
     let more = grown_place self.places c.room-place.result (omega arith) c.args.row to.vacant c.requires.absent self.differ self.little c.requires.fit in (

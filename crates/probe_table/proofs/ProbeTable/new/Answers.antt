@@ -4,8 +4,8 @@ use Rattle.pairs.proofs.Rows.{apart_nil, all_small_nil}
 use Rattle.probe_table.proofs.Probing.{held_free, used_free, reached_free}
 use Rattle.probe_table.proofs.ProbeTable.new.Goals as goal
 
-pub invariant-of-result : goal.invariant-of-result
-invariant-of-result c =
+pub invariant_of-result : goal.invariant_of-result
+invariant_of-result c =
     (refl, (sym (ap length (held_free 512)), (omega arith, (omega arith, (le_of_eq (used_free 512), (ap apart (held_free 512) ∙ apart_nil, (ap all_small (held_free 512) ∙ all_small_nil, (reached_free 512, tt))))))))
 
 pub returns : goal.returns

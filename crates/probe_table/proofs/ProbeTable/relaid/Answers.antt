@@ -4,7 +4,7 @@ use Rattle.probe_table.specs.declared.ProbeTable.{ProbeTable}
 use Rattle.probe_table.specs.Probing.{held, place_at, Same}
 use Rattle.probe_table.proofs.Probing.{Next, next_row, same_nil, same_more, held_next_row, held_next_none, held_all, not_held}
 use Rattle.probe_table.proofs.ProbeTable.relaid.Goals as goal
-use Rattle.probe_table.proofs.ProbeTable.relaid.Goals.{in-Held, in-default}
+use Rattle.probe_table.proofs.ProbeTable.relaid.Goals.{in-Held, in_default}
 
 pub loop-p-init : goal.loop-p-init
 loop-p-init c =
@@ -40,9 +40,9 @@ loop-p-preserved c =
           (same_more (held (take p self.places)) (held c.loop-p.fresh.places) (held after.places) row same next.absent w.insert.ensures.added) in
           subst Laid (sym w.fresh-is)
           (more, omega (arith, w.insert.ensures.spends, w.insert.ensures.added.count, after.counted, c.loop-p.fresh.counted, c.loop-p.invariant.1))
-      | in-default w ↦
+      | in_default w ↦
           subst Laid (sym w.fresh-is)
-          (subst (λ x. Same x (held c.loop-p.fresh.places)) (sym (held_next_none self.places p (omega arith) (not_held _ w.in-default.not-Held))) same, c.loop-p.invariant.1)
+          (subst (λ x. Same x (held c.loop-p.fresh.places)) (sym (held_next_none self.places p (omega arith) (not_held _ w.in_default.not-Held))) same, c.loop-p.invariant.1)
     ]
 
 pub returns : goal.returns

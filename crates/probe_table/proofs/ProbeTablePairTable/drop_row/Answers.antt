@@ -6,14 +6,14 @@ use Rattle.probe_table.specs.Probing.{is_free}
 use Rattle.probe_table.proofs.Probing.{gone_place, in_force_place, used_reset, reached_dropped}
 use Rattle.probe_table.proofs.ProbeTablePairTable.drop_row.Goals as goal
 
-pub overflow-sub-self : goal.overflow-sub-self
-overflow-sub-self c =
+pub overflow_sub-self : goal.overflow_sub-self
+overflow_sub-self c =
     let self = c.args.self.now in
     let there = c.in-Some.ensures in
     omega (arith, (gone_place self.places c.in-Some.place (omega arith) _ there.1 self.differ self.little).count, self.counted)
 
-pub invariant-of-self : goal.invariant-of-self
-invariant-of-self c =
+pub invariant_of-self : goal.invariant_of-self
+invariant_of-self c =
     let self = c.args.self.now in
     let there = c.in-Some.ensures in
     let goes = gone_place self.places c.in-Some.place (omega arith) _ there.1 self.differ self.little in (

@@ -39,7 +39,7 @@ returns-in-Some-judge-types c =
     let e = c.len.ensures in
     let t = c.if-scratch-len.false in
     mistyped _ c.in-Ok.ensures (declared c.resolve-declarations.result) c.in-Some-judge-types.place (omega (arith, e, t)) c.resolve-declarations.ensures
-    c.in-default.ensures.same c.in-Some-judge-types.ensures.first
+    c.in_default.ensures.same c.in-Some-judge-types.ensures.first
 
 pub returns : goal.returns
 unfolding model model_of
@@ -54,7 +54,7 @@ returns c =
     let few : length K.nodes ≤ length c.args.scratch.now = omega (arith, e, t) in
     let n : min (length K.nodes) (length c.args.scratch.now) ≡ length K.nodes = omega arith in
     let nodes = c.judge-types.ensures.fresh c.new-nodes.ensures in
-    accepted _ c.in-Ok.ensures d _ few r c.in-default.ensures.same c.in-default-judge-types.ensures.first
+    accepted _ c.in-Ok.ensures d _ few r c.in_default.ensures.same c.in_default-judge-types.ensures.first
     (λ i. record {
       declared = r i;
       owners = c.field-owners.ensures i;

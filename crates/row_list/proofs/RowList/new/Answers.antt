@@ -2,5 +2,5 @@ use Rattle.std.proofs.Common.{refl, arith}
 use Rattle.pairs.proofs.Rows.{apart_nil, all_small_nil}
 use Rattle.row_list.proofs.RowList.new.Goals as goal
 
-pub invariant-of-result : goal.invariant-of-result
-invariant-of-result c = (refl, (omega arith, (apart_nil, (all_small_nil, tt))))
+pub invariant_of-result : goal.invariant_of-result
+invariant_of-result c = (refl, (omega arith, (apart_nil, (all_small_nil, tt))))

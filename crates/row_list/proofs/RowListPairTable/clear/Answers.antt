@@ -2,5 +2,5 @@ use Rattle.std.proofs.Common.{arith}
 use Rattle.pairs.proofs.Rows.{apart_nil, all_small_nil}
 use Rattle.row_list.proofs.RowListPairTable.clear.Goals as goal
 
-pub invariant-of-self : goal.invariant-of-self
-invariant-of-self c = (c.args.self.now.whole, (omega arith, (apart_nil, (all_small_nil, tt))))
+pub invariant_of-self : goal.invariant_of-self
+invariant_of-self c = (c.args.self.now.whole, (omega arith, (apart_nil, (all_small_nil, tt))))

@@ -4,8 +4,8 @@ use Rattle.pairs.proofs.Changed.{dropped}
 use Rattle.row_list.proofs.Places.{gone_placed, in_force_among}
 use Rattle.row_list.proofs.RowListPairTable.drop_row.Goals as goal
 
-pub invariant-of-self : goal.invariant-of-self
-invariant-of-self c =
+pub invariant_of-self : goal.invariant_of-self
+invariant_of-self c =
     let self = c.args.self.now in
     let goes = gone_placed self.items self.count c.in-Some.place (omega arith) c.in-Some.ensures.0 self.differ self.little in
     (length-set self.items c.in-Some.place _ ∙ self.whole, (omega arith, (goes.differ, (goes.little, tt))))

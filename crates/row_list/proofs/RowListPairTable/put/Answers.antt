@@ -3,8 +3,8 @@ use Rattle.std.proofs.lemmas.Bool.{leb-false, lt-leb}
 use Rattle.row_list.proofs.Places.{grown_at}
 use Rattle.row_list.proofs.RowListPairTable.put.Goals as goal
 
-pub invariant-of-self : goal.invariant-of-self
-invariant-of-self c =
+pub invariant_of-self : goal.invariant_of-self
+invariant_of-self c =
     let self = c.args.self.now in
     let good = c.in-ok-judged.ensures in
     let l : self.count < 256 = leb-false 256 self.count good.2 in

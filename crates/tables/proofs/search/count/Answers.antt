@@ -6,8 +6,8 @@ use Rattle.tables.proofs.search.count.Goals.{then-passes-at, else-passes-at}
 pub loop-i-init : goal.loop-i-init
 loop-i-init g c = sym (count_start _)
 
-pub overflow-add-passed : goal.overflow-add-passed
-overflow-add-passed g c = omega (arith, count_few (g.T.Test.passes c.args.test.now) c.loop-i.i)
+pub overflow_add-passed : goal.overflow_add-passed
+overflow_add-passed g c = omega (arith, count_few (g.T.Test.passes c.args.test.now) c.loop-i.i)
 
 pub loop-i-preserved : goal.loop-i-preserved
 loop-i-preserved g c =

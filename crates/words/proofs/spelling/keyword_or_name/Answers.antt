@@ -16,5 +16,5 @@ returns-in-3 c = c.keyword-of-three.ensures ∙ sym (by_size (eqb 3) keywords c.
 pub returns-in-4 : goal.returns-in-4
 returns-in-4 c = c.keyword-of-four.ensures ∙ sym (by_size (eqb 4) keywords c.args.bytes.now (eq-eqb _ _ (omega arith)))
 
-pub returns-in-default : goal.returns-in-default
-returns-in-default c = c.keyword-of-more.ensures ∙ sym (by_size (ltb 4) keywords c.args.bytes.now (lt-ltb _ _ (omega arith)))
+pub returns-in_default : goal.returns-in_default
+returns-in_default c = c.keyword-of-more.ensures ∙ sym (by_size (ltb 4) keywords c.args.bytes.now (lt-ltb _ _ (omega arith)))

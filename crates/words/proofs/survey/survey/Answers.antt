@@ -18,8 +18,8 @@ returns-then-is c =
 pub pass-requires : goal.pass-requires
 pass-requires c = omega (arith, c.loop-word.invariant.1, c.loop-word.invariant.2, cut_few 0 0 c.args.text.now)
 
-pub overflow-add-words : goal.overflow-add-words
-overflow-add-words c = let h = cut_few 0 0 c.args.text.now in search rules
+pub overflow_add-words : goal.overflow_add-words
+overflow_add-words c = let h = cut_few 0 0 c.args.text.now in search rules
 
 pub loop-word-preserved : goal.loop-word-preserved
 loop-word-preserved c =
@@ -41,7 +41,7 @@ returns-in-Some-over c =
     let short : length c.args.text.now ≤ 32768 = omega arith in
     let n = c.loop-word.nesting in
     let k = c.loop-word.words in
-    sym (surveyed_short c.args.text.now short ∙ sym c.loop-word.invariant.0 ∙ ap (conclude n k) c.in-default.ensures.0
+    sym (surveyed_short c.args.text.now short ∙ sym c.loop-word.invariant.0 ∙ ap (conclude n k) c.in_default.ensures.0
     ∙ conclude_none n k c.loop-word.invariant.3 ∙ ap (λ o. refused_at o TooDeep (Ok (extent k n.most))) c.in-Some-over.is)
 
 pub returns-in-None : goal.returns-in-None
@@ -49,5 +49,5 @@ returns-in-None c =
     let short : length c.args.text.now ≤ 32768 = omega arith in
     let n = c.loop-word.nesting in
     let k = c.loop-word.words in
-    sym (surveyed_short c.args.text.now short ∙ sym c.loop-word.invariant.0 ∙ ap (conclude n k) c.in-default.ensures.0
+    sym (surveyed_short c.args.text.now short ∙ sym c.loop-word.invariant.0 ∙ ap (conclude n k) c.in_default.ensures.0
     ∙ conclude_none n k c.loop-word.invariant.3 ∙ ap (λ o. refused_at o TooDeep (Ok (extent k n.most))) c.in-None.is)

@@ -11,8 +11,8 @@ returns-then-parent-self c = let n = rows_are c.args.self.now in no_parent (omeg
 pub returns-then-self-ge32 : goal.returns-then-self-ge32
 returns-then-self-ge32 c = let n = rows_are c.args.self.now in full (omega arith) (omega arith) refl
 
-pub invariant-of-self : goal.invariant-of-self
-invariant-of-self c =
+pub invariant_of-self : goal.invariant_of-self
+invariant_of-self c =
     let l = c.args.self.now in
     let r = l.rows in
     let p = c.args.parent in

@@ -11,8 +11,8 @@ use Rattle.grammar.proofs.Items.{fed_append, gone, took_walk, walk_took, walk_wa
 use Rattle.grammar.proofs.Passing.{took, rest_few, seen_first, unseen_first}
 use Rattle.grammar.proofs.parser.Parser.+atom_call_dotted_expr_item_member_pair_part_right.Goals as goal
 
-pub atom-returns-in-default : goal.atom-returns-in-default
-atom-returns-in-default g t c = end_fails (sym c.in-default.ensures) c.place-place.ensures
+pub atom-returns-in_default : goal.atom-returns-in_default
+atom-returns-in_default g t c = end_fails (sym c.in_default.ensures) c.place-place.ensures
 
 pub atom-returns-in-err-class : goal.atom-returns-in-err-class
 atom-returns-in-err-class g t c =
@@ -78,7 +78,7 @@ atom-returns-in-Some-literal-of g t c =
 
 pub atom-returns-in-None : goal.atom-returns-in-None
 atom-returns-in-None g t c =
-    begin_fails c.in-Some.kind (sym c.in-Some.ensures) c.in-default-kind.not-Name c.in-default-kind.not-New c.in-default-kind.not-OpenParen (sym c.in-None.ensures) c.place-place.ensures
+    begin_fails c.in-Some.kind (sym c.in-Some.ensures) c.in_default-kind.not-Name c.in_default-kind.not-New c.in_default-kind.not-OpenParen (sym c.in-None.ensures) c.place-place.ensures
 
 pub call-returns-in-err-expr : goal.call-returns-in-err-expr
 call-returns-in-err-expr g t c =
@@ -136,8 +136,8 @@ dotted-returns-in-None g t c =
 pub expr-loop-targets-init : goal.expr-loop-targets-init
 expr-loop-targets-init g t c = chain_none _ _
 
-pub expr-overflow-add-targets : goal.expr-overflow-add-targets
-expr-overflow-add-targets g t c =
+pub expr-overflow_add-targets : goal.expr-overflow_add-targets
+expr-overflow_add-targets g t c =
     let s = c.args.self.now in
     let n = chain_more c.loop-targets.invariant (target_of c.in-ok-part.field-0 c.if-branch.true c.in-ok-part.ensures) in
     Fits-below {n = 18446744073709551615} tt (omega (arith, n.count, rest_few s, s.few))

@@ -19,8 +19,8 @@ returns-then-field-span c =
     sym (no_field (packed_model s) c.args.cell _ (cell_at s c.args.cell nowhere c.if-cell-self.false) c.args.field (omega arith))
 
 -- the slot lies among those that are filled
-pub overflow-add-result : goal.overflow-add-result
-overflow-add-result c = let e = slots_end c.args.self.now c.args.cell nowhere c.if-cell-self.false in omega arith
+pub overflow_add-result : goal.overflow_add-result
+overflow_add-result c = let e = slots_end c.args.self.now c.args.cell nowhere c.if-cell-self.false in omega arith
 
 pub returns : goal.returns
 returns c =

@@ -4,5 +4,5 @@ use Rattle.program.proofs.program.Program.new.Goals as goal
 pub unreachable-requires : goal.unreachable-requires
 unreachable-requires c = never_refused c.in-Err.field-0 c.in-Err.ensures
 
-pub invariant-of-result : goal.invariant-of-result
-invariant-of-result c = (∣ record { text = smallest; scratch = 2; accepted = c.in-Ok.ensures } ∣₁, tt)
+pub invariant_of-result : goal.invariant_of-result
+invariant_of-result c = (∣ record { text = smallest; scratch = 2; accepted = c.in-Ok.ensures } ∣₁, tt)

@@ -18,11 +18,11 @@ words_are : (text : List ℕ) (at k : ℕ) (o : Option Front) → k ≡ prefix_l
 words_are text at k o e f =
     next_front text at k (e ∙ ap (prefix_len separator) (between_to_end text at (length text) (le_refl _))) ∙ ap (rest_of (at + k) (drop (at + k) text)) f
 
-pub returns-in-default : goal.returns-in-default
-returns-in-default c =
+pub returns-in_default : goal.returns-in_default
+returns-in_default c =
     let text = c.args.self.now.text.now in
     let at = c.args.self.now.at in
-    let none = front_from text (at + c.run-of.result) _ None c.front-of.ensures c.in-default.is in
+    let none = front_from text (at + c.run-of.result) _ None c.front-of.ensures c.in_default.is in
     let end = words_are text at c.run-of.result None c.run-of.ensures.is none in
     (end, end)
 
@@ -33,11 +33,11 @@ within c =
     let sized = front_sized (drop p text) c.in-Some.field-0 (front_from text p _ _ c.front-of.ensures c.in-Some.is) in
     omega (arith, sized.some, sized.within, length-drop p text)
 
-pub overflow-add-self : goal.overflow-add-self
-overflow-add-self c = let h = within c in search rules
+pub overflow_add-self : goal.overflow_add-self
+overflow_add-self c = let h = within c in search rules
 
-pub invariant-of-self : goal.invariant-of-self
-invariant-of-self c = (within c, tt)
+pub invariant_of-self : goal.invariant_of-self
+invariant_of-self c = (within c, tt)
 
 pub returns : goal.returns
 returns c =

@@ -24,8 +24,8 @@ returns-then-end-gt512 c =
     let k = used_slots s in
     record { answer = refused_slots (packed_model s) c.args.fields (omega arith) (omega arith) (omega arith); after = refl }
 
-pub invariant-of-self : goal.invariant-of-self
-invariant-of-self c =
+pub invariant_of-self : goal.invariant_of-self
+invariant_of-self c =
     let s = c.args.self.now in
     let q : Span = record { head = c.args.head; start = s.filled; count = c.args.fields } in
     let h = c.if-self-ge128.false in

@@ -4,14 +4,14 @@ use Rattle.packed_store.specs.Packed.{packed, packed_model}
 use Rattle.packed_store.specs.PackedSpans.{slot_reads, slot_end, slot_blank, slot_cells}
 use Rattle.packed_store.proofs.packed.calls.PackedStoreStore.put.Goals as goal
 
-pub offset-bounds-self-slot : goal.offset-bounds-self-slot
-offset-bounds-self-slot c = let e = slot_end c.args.self.now _ _ _ c.in-ok-slot.ensures in omega arith
+pub offset_bounds-self-slot : goal.offset_bounds-self-slot
+offset_bounds-self-slot c = let e = slot_end c.args.self.now _ _ _ c.in-ok-slot.ensures in omega arith
 
 pub bounds-self-slot : goal.bounds-self-slot
 bounds-self-slot c = let e = slot_end c.args.self.now _ _ _ c.in-ok-slot.ensures in omega arith
 
-pub invariant-of-self : goal.invariant-of-self
-invariant-of-self c =
+pub invariant_of-self : goal.invariant_of-self
+invariant_of-self c =
     let s = c.args.self.now in (
       s.whole,
       (
