@@ -7,8 +7,8 @@ use crate::table::PairTable;
 
 // Puts a row in, if the table takes it, and answers the instance that is then in force for its relationship and cells.
 pub fn relate_and_read<P: PairTable>(table: &mut P, row: Row) -> Option<u8>
-    ensures reads { ReadBack (limit table.old) (rows table.old) row result (rows table.new) }
-    ensures fixed { limit table.new ≡ limit table.old }
+    ensures reads { ReadBack (P.PairTable.limit table.old) (P.PairTable.rows table.old) row result (P.PairTable.rows table.new) }
+    ensures fixed { P.PairTable.limit table.new ≡ P.PairTable.limit table.old }
 {
     let _ = table.put(row);
     table.find(row.relationship, row.from, row.to)

@@ -6,29 +6,29 @@ pub returns-in-Some : goal.returns-in-Some
 unfolding misdeclared_of
 returns-in-Some c = search rules
 
-pub returns-in-Some-first-missing : goal.returns-in-Some-first-missing
+pub returns-in-Some-first_missing : goal.returns-in-Some-first_missing
 unfolding misdeclared_of
-returns-in-Some-first-missing c = search rules
+returns-in-Some-first_missing c = search rules
 
-pub returns-in-Some-first-clash : goal.returns-in-Some-first-clash
+pub returns-in-Some-first_clash : goal.returns-in-Some-first_clash
 unfolding misdeclared_of
-returns-in-Some-first-clash c = search rules
+returns-in-Some-first_clash c = search rules
 
-pub returns-in-Some-first-end-misfit : goal.returns-in-Some-first-end-misfit
+pub returns-in-Some-first_end_misfit : goal.returns-in-Some-first_end_misfit
 unfolding misdeclared_of
-returns-in-Some-first-end-misfit c = search rules
+returns-in-Some-first_end_misfit c = search rules
 
-pub returns-in-Some-first-override-misfit : goal.returns-in-Some-first-override-misfit
+pub returns-in-Some-first_override_misfit : goal.returns-in-Some-first_override_misfit
 unfolding misdeclared_of
-returns-in-Some-first-override-misfit c = search rules
+returns-in-Some-first_override_misfit c = search rules
 
-pub returns-in-Some-main-missing : goal.returns-in-Some-main-missing
+pub returns-in-Some-main_missing : goal.returns-in-Some-main_missing
 unfolding misdeclared_of
-returns-in-Some-main-missing c = search rules
+returns-in-Some-main_missing c = search rules
 
-pub returns-in-Some-first-too-many : goal.returns-in-Some-first-too-many
+pub returns-in-Some-first_too_many : goal.returns-in-Some-first_too_many
 unfolding misdeclared_of
-returns-in-Some-first-too-many c = search rules
+returns-in-Some-first_too_many c = search rules
 
 pub returns : goal.returns
 unfolding misdeclared_of

@@ -13,7 +13,7 @@ pub loop-i-preserved : goal.loop-i-preserved
 loop-i-preserved c =
     let text = c.args.text.now in
     let k = contents c.args.outline.now in
-    let p = c.parent-or-root.ensures in
+    let p = c.parent_or_root.ensures in
     let h = parent_low text k c.args.lineage c.loop-i.i in
-    let n = few_listed c.rows-of.result.now in
+    let n = few_listed c.rows_of.result.now in
     grows _ _ _ _ _ _ c.loop-i.invariant p (omega (arith, p, h)) (omega (arith, n, c.len-i-end.ensures)) c.add.ensures

@@ -24,5 +24,5 @@ returns-in-None c =
       tree = t;
       program = record { extent = c.in-Ok.field-0; readable = j.0; parsed = j.1.parsed };
       limit = e;
-      tables = ap contents c.into-outline.ensures ∙ same_tables t _ b e;
+      tables = ap contents c.into_outline.ensures ∙ same_tables t _ b e;
     }

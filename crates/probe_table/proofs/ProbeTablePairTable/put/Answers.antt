@@ -4,12 +4,12 @@ use Rattle.probe_table.proofs.Probing.{same_added}
 use Rattle.probe_table.proofs.ProbeTablePairTable.put.Goals as goal
 
 pub freshen-requires : goal.freshen-requires
-freshen-requires c = leb-false 256 c.args.self.now.count c.in-ok-judged.ensures.2
+freshen-requires c = leb-false 256 c.args.self.now.count c.in_ok-judged.ensures.2
 
 pub insert-requires : goal.insert-requires
 insert-requires c =
     let self = c.args.self.now in
-    let good = c.in-ok-judged.ensures in
+    let good = c.in_ok-judged.ensures in
     let few : self.count < 256 = leb-false 256 self.count good.2 in
     let same = c.freshen.ensures.same in
     let now-self = c.freshen.new.self in
@@ -23,7 +23,7 @@ insert-requires c =
 pub returns : goal.returns
 returns c =
     let self = c.args.self.now in
-    let good = c.in-ok-judged.ensures in
+    let good = c.in_ok-judged.ensures in
     let few : self.count < 256 = leb-false 256 self.count good.2 in
     record {
       puts = record {

@@ -34,12 +34,12 @@ returns-in-Some c =
     faulty _ c.in-Ok.ensures (declared c.resolve-declarations.result) c.in-Some.fault (omega (arith, e, t)) c.resolve-declarations.ensures
     c.in-Some.ensures.same
 
-pub returns-in-Some-judge-types : goal.returns-in-Some-judge-types
-returns-in-Some-judge-types c =
+pub returns-in-Some-judge_types : goal.returns-in-Some-judge_types
+returns-in-Some-judge_types c =
     let e = c.len.ensures in
     let t = c.if-scratch-len.false in
-    mistyped _ c.in-Ok.ensures (declared c.resolve-declarations.result) c.in-Some-judge-types.place (omega (arith, e, t)) c.resolve-declarations.ensures
-    c.in_default.ensures.same c.in-Some-judge-types.ensures.first
+    mistyped _ c.in-Ok.ensures (declared c.resolve-declarations.result) c.in-Some-judge_types.place (omega (arith, e, t)) c.resolve-declarations.ensures
+    c.in_default.ensures.same c.in-Some-judge_types.ensures.first
 
 pub returns : goal.returns
 unfolding model model_of
@@ -53,14 +53,14 @@ returns c =
     let r = c.resolve-declarations.ensures in
     let few : length K.nodes ≤ length c.args.scratch.now = omega (arith, e, t) in
     let n : min (length K.nodes) (length c.args.scratch.now) ≡ length K.nodes = omega arith in
-    let nodes = c.judge-types.ensures.fresh c.new-nodes.ensures in
-    accepted _ c.in-Ok.ensures d _ few r c.in_default.ensures.same c.in_default-judge-types.ensures.first
+    let nodes = c.judge_types.ensures.fresh c.new-nodes.ensures in
+    accepted _ c.in-Ok.ensures d _ few r c.in_default.ensures.same c.in_default-judge_types.ensures.first
     (λ i. record {
       declared = r i;
-      owners = c.field-owners.ensures i;
-      dispatches = c.method-dispatches.ensures i;
-      variables = c.variable-methods.ensures i;
+      owners = c.field_owners.ensures i;
+      dispatches = c.method_dispatches.ensures i;
+      variables = c.variable_methods.ensures i;
       nodes = (nodes ∙ ap (tabulated (instruction_at text K d)) n ∙ ap (λ y. tabulated (instruction_at text K y) (length K.nodes)) r) i;
-      blocks = ap listed c.into-blocks.ensures i;
-      main = c.first-called.ensures i;
+      blocks = ap listed c.into_blocks.ensures i;
+      main = c.first_called.ensures i;
     })

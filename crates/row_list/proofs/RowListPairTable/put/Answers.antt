@@ -6,7 +6,7 @@ use Rattle.row_list.proofs.RowListPairTable.put.Goals as goal
 pub invariant_of-self : goal.invariant_of-self
 invariant_of-self c =
     let self = c.args.self.now in
-    let good = c.in-ok-judged.ensures in
+    let good = c.in_ok-judged.ensures in
     let l : self.count < 256 = leb-false 256 self.count good.2 in
     let more = grown_at self.items self.count c.args.row (omega arith) (sym c.find-present.ensures ∙ good.1) self.differ self.little good.0 in
     (length-set self.items self.count _ ∙ self.whole, (omega arith, (more.differ, (more.little, tt))))
@@ -14,7 +14,7 @@ invariant_of-self c =
 pub returns : goal.returns
 returns c =
     let self = c.args.self.now in
-    let good = c.in-ok-judged.ensures in
+    let good = c.in_ok-judged.ensures in
     let l : self.count < 256 = leb-false 256 self.count good.2 in
     let absent = sym c.find-present.ensures ∙ good.1 in
     let more = grown_at self.items self.count c.args.row (omega arith) absent self.differ self.little good.0 in

@@ -17,7 +17,7 @@ pub loop-at-preserved : goal.loop-at-preserved
 loop-at-preserved c =
     let here = c.in-Some.ensures in
     let text = vec_items c.loop-at.text in
-    let grown = pushed {was = text} (c.in-Some.spelled.byte ∷ []) refl c.in-ok-push.was c.push.ensures.items in (
+    let grown = pushed {was = text} (c.in-Some.spelled.byte ∷ []) refl c.in_ok-push.was c.push.ensures.items in (
       omega (arith, here.within.1),
       λ after adds. c.loop-at.invariant.1 after (more text _ c.args.piece.now after c.loop-at.at c.in-Some.spelled here.is grown adds),
     )

@@ -5,8 +5,8 @@ use Rattle.tables.proofs.search.any.Goals as goal
 pub loop-i-init : goal.loop-i-init
 loop-i-init g c = any_start _
 
-pub returns-then-passes-at : goal.returns-then-passes-at
-returns-then-passes-at g c = sym (some_any _ _ c.loop-i.i (omega arith) (sym c.if-passes-at.ensures))
+pub returns-then-passes_at : goal.returns-then-passes_at
+returns-then-passes_at g c = sym (some_any _ _ c.loop-i.i (omega arith) (sym c.if-passes_at.ensures))
 
 pub loop-i-preserved : goal.loop-i-preserved
-loop-i-preserved g c = any_more _ c.loop-i.i c.loop-i.invariant (sym c.if-passes-at.ensures)
+loop-i-preserved g c = any_more _ c.loop-i.i c.loop-i.invariant (sym c.if-passes_at.ensures)

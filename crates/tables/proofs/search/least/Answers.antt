@@ -6,4 +6,4 @@ pub loop-i-init : goal.loop-i-init
 loop-i-init g c = sym (least_start _)
 
 pub loop-i-preserved : goal.loop-i-preserved
-loop-i-preserved g c = least_next _ c.loop-i.i c.loop-i.best c.place-at.result _ c.loop-i.invariant c.place-at.ensures c.lesser-of-best.ensures
+loop-i-preserved g c = least_next _ c.loop-i.i c.loop-i.best c.place_at.result _ c.loop-i.invariant c.place_at.ensures c.lesser_of-best.ensures

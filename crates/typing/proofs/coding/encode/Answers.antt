@@ -15,10 +15,10 @@ returns-in-Null c = code_null c.in-Some.t c.in-Null.ensures ∙ sym c.in-Some.is
 
 pub returns-in-Row : goal.returns-in-Row
 returns-in-Row c =
-    code_row c.in-Row.lineage c.in-Some.t c.row.result c.row-code.result c.in-Row.ensures c.row.ensures (omega arith) c.row-code.ensures
+    code_row c.in-Row.lineage c.in-Some.t c.row.result c.row_code.result c.in-Row.ensures c.row.ensures (omega arith) c.row_code.ensures
     ∙ sym c.in-Some.is
 
 pub returns-in-Set : goal.returns-in-Set
 returns-in-Set c =
-    code_set c.in-Set.lineage c.in-Some.t c.row-in-Set.result c.row-code-in-Set.result c.in-Set.ensures c.row-in-Set.ensures (omega arith) c.row-code-in-Set.ensures
+    code_set c.in-Set.lineage c.in-Some.t c.row-in-Set.result c.row_code-in-Set.result c.in-Set.ensures c.row-in-Set.ensures (omega arith) c.row_code-in-Set.ensures
     ∙ sym c.in-Some.is

@@ -21,16 +21,16 @@ loop-i-preserved c =
     let k = contents c.args.outline.now in
     let d = declared c.args.declarations.now in
     let i = c.loop-i.i in
-    let v = c.node-at-node.result in
+    let v = c.node_at-node.result in
     let r = c.rule-ruling.result in
     let inv = c.loop-i.invariant in
     let few : i ≤ length c.loop-i.scratch = omega (arith, c.min-n.ensures) in
     let left = c.part-left.ensures ∙ part_is text k d c.loop-i.scratch i v.left inv.0 few in
     let right = c.part-right.ensures ∙ part_is text k d c.loop-i.scratch i v.right inv.0 few in
-    let is : r ≡ ruling_at text k d i = ruling_is text k d i v c.part-left.result c.part-right.result r c.node-at-node.ensures left right c.rule-ruling.ensures in (
-      keeps_more text k d c.loop-i.scratch i c.encode.result r c.type-of.result inv.0 (omega (arith, c.min-n.ensures)) is c.type-of.ensures c.encode.ensures,
-      least_next _ i c.loop-i.best c.fault-place.result _ inv.1 (place_is text k d i v r c.fault-place.result c.node-at-node.ensures is c.fault-place.ensures) c.lesser-of-best.ensures,
-      below_next _ (listed c.args.steps.now) i c.loop-i.steps _ c.instruction-for.result inv.2 (instruction_is text k d i v r c.instruction-for.result c.node-at-node.ensures is c.instruction-for.ensures) c.push.ensures,
+    let is : r ≡ ruling_at text k d i = ruling_is text k d i v c.part-left.result c.part-right.result r c.node_at-node.ensures left right c.rule-ruling.ensures in (
+      keeps_more text k d c.loop-i.scratch i c.encode.result r c.type_of.result inv.0 (omega (arith, c.min-n.ensures)) is c.type_of.ensures c.encode.ensures,
+      least_next _ i c.loop-i.best c.fault_place.result _ inv.1 (place_is text k d i v r c.fault_place.result c.node_at-node.ensures is c.fault_place.ensures) c.lesser_of-best.ensures,
+      below_next _ (listed c.args.steps.now) i c.loop-i.steps _ c.instruction_for.result inv.2 (instruction_is text k d i v r c.instruction_for.result c.node_at-node.ensures is c.instruction_for.ensures) c.push.ensures,
     )
 
 pub returns : goal.returns

@@ -7,13 +7,13 @@ pub loop-c-init : goal.loop-c-init
 loop-c-init g c = λ k h. absurd (omega arith)
 
 pub loop-c-preserved : goal.loop-c-preserved
-loop-c-preserved g c = below_more _ _ c.loop-c.invariant (sym c.member-fits.ensures ∙ c.if-not-member-fits.false)
+loop-c-preserved g c = below_more _ _ c.loop-c.invariant (sym c.member_fits.ensures ∙ c.if-not-member_fits.false)
 
-pub returns-then-not-member-fits : goal.returns-then-not-member-fits
-returns-then-not-member-fits g c =
+pub returns-then-not-member_fits : goal.returns-then-not-member_fits
+returns-then-not-member_fits g c =
     let k = c.loop-c-test.true in
     one_fails (ancestry c.args.lines.now) (g.R.CellRows.rows c.args.cells.now) c.args.set c.args.lineage c.args.n c.loop-c.c k
-    (sym c.member-fits.ensures ∙ c.if-not-member-fits.true)
+    (sym c.member_fits.ensures ∙ c.if-not-member_fits.true)
 
 pub returns : goal.returns
 returns g c =

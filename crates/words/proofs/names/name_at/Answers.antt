@@ -18,7 +18,7 @@ unfolding name_at
 returns c =
     let text = c.args.text.now in
     let rest = between_to_end text c.args.place (length text) (le_refl _) in
-    let all : c.run-of.result - 0 ≡ c.run-of.result = omega arith in
-    let size = c.run-of.ensures.is in
+    let all : c.run_of.result - 0 ≡ c.run_of.result = omega arith in
+    let size = c.run_of.ensures.is in
     let run = ap (prefix_len name_byte) rest in
     cc

@@ -5,8 +5,8 @@ use Rattle.words.specs.Words.{told, unread}
 use Rattle.words.proofs.Surveying.{conclude, conclude_word, conclude_fault, conclude_none, cut_few, depth_below, depth_most, surveyed_short, surveyed_long}
 use Rattle.words.proofs.survey.survey.Goals as goal
 
-pub returns-then-text-gt-LONGEST-TEXT : goal.returns-then-text-gt-LONGEST-TEXT
-returns-then-text-gt-LONGEST-TEXT c = sym (surveyed_long c.args.text.now c.if-text-gt-LONGEST-TEXT.true)
+pub returns-then-text-gt-LONGEST_TEXT : goal.returns-then-text-gt-LONGEST_TEXT
+returns-then-text-gt-LONGEST_TEXT c = sym (surveyed_long c.args.text.now c.if-text-gt-LONGEST_TEXT.true)
 
 pub returns-then-is : goal.returns-then-is
 returns-then-is c =

@@ -16,26 +16,19 @@ invariant_of-self c =
     let l = c.args.self.now in
     let r = l.rows in
     let p = c.args.parent in
-    let here : r < length l.parents = omega arith in (
-      simp length-set l.whole,
-      (
-        omega arith,
-        (
-          omega arith,
-          (
-            get_or-set_other l.parents r 0 p 0 (omega arith) ∙ l.plain,
-            (
-              λ a h k.
-                  elim (cases_eq a r) [
-                    | inl e ↦ let v = get_or-set_same l.parents r p 0 here in rw e (omega arith)
-                    | inr ne ↦ let v = get_or-set_other l.parents r a p 0 ne in let s = l.smaller a h (omega arith) in omega arith
-                  ],
-              tt,
-            ),
-          ),
-        ),
-      ),
-    )
+    let here : r < length l.parents = omega arith in
+    record {
+      whole = simp length-set l.whole;
+      rooted = omega arith;
+      few = omega arith;
+      plain = get_or-set_other l.parents r 0 p 0 (omega arith) ∙ l.plain;
+      smaller =
+          λ a h k.
+              elim (cases_eq a r) [
+                | inl e ↦ let v = get_or-set_same l.parents r p 0 here in rw e (omega arith)
+                | inr ne ↦ let v = get_or-set_other l.parents r a p 0 ne in let s = l.smaller a h (omega arith) in omega arith
+              ];
+    }
 
 pub returns : goal.returns
 unfolding line_of

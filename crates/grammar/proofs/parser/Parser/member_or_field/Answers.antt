@@ -14,47 +14,47 @@ use Rattle.grammar.proofs.Steps.{took_leads, fails_after}
 use Rattle.grammar.proofs.parser.Parser.member_or_field.Goals as goal
 use Rattle.std.proofs.lemmas.Bool.{and_parts}
 
-pub returns-in-err-typed : goal.returns-in-err-typed
-returns-in-err-typed g c =
+pub returns-in_err-typed : goal.returns-in_err-typed
+returns-in_err-typed g c =
     let p = c.args.self.now in
     let b = c.args.fields in
     let z = err_from_is_err_and c.from-residual.result c.from-residual.ensures.1 in
     record {
-      gives = λ s l h. rw (z.1, z.2) (Bodies.gather-fails _ b s p l _ h (fails_after (members b) machine.typed (λ α. word kind.Name ∷ machine.member b ∷ α) (λ α. Expected.members-type b α (rest p) c.requires) refl c.in-err-typed.ensures));
+      gives = λ s l h. rw (z.1, z.2) (Bodies.gather-fails _ b s p l _ h (fails_after (members b) machine.typed (λ α. word kind.Name ∷ machine.member b ∷ α) (λ α. Expected.members-type b α (rest p) c.requires) refl c.in_err-typed.ensures));
       falls = rw z.1 tt;
     }
 
-pub returns-in-err-name : goal.returns-in-err-name
-returns-in-err-name g c =
+pub returns-in_err-name : goal.returns-in_err-name
+returns-in_err-name g c =
     let p = c.args.self.now in
     let b = c.args.fields in
-    let t = c.in-ok-typed.ensures in
-    let z = err_from_is_err_and c.from-residual-in-err-name.result c.from-residual-in-err-name.ensures.1 in
+    let t = c.in_ok-typed.ensures in
+    let z = err_from_is_err_and c.from-residual-in_err-name.result c.from-residual-in_err-name.ensures.1 in
     record {
-      gives = λ s l h. rw (z.1, z.2) (Bodies.gather-fails _ b s p l _ h (fails_after (members b) (word kind.Name) (λ α. machine.member b ∷ α) (λ α. Expected.members-type b α (rest p) c.requires ∙ t.leads _) t.end_is c.in-err-name.ensures));
+      gives = λ s l h. rw (z.1, z.2) (Bodies.gather-fails _ b s p l _ h (fails_after (members b) (word kind.Name) (λ α. machine.member b ∷ α) (λ α. Expected.members-type b α (rest p) c.requires ∙ t.leads _) t.end_is c.in_err-name.ensures));
       falls = rw z.1 tt;
     }
 
-pub returns-then-field-ends : goal.returns-then-field-ends
-returns-then-field-ends g c =
-    let t = c.in-ok-typed.ensures in
-    let n = c.in-ok-name.ensures in
-    let both = and_parts _ _ (sym c.if-field-ends.ensures) in
+pub returns-then-field_ends : goal.returns-then-field_ends
+returns-then-field_ends g c =
+    let t = c.in_ok-typed.ensures in
+    let n = c.in_ok-name.ensures in
+    let both = and_parts _ _ (sym c.if-field_ends.ensures) in
     let m = took kind.Semicolon c.take.new.self _ (seen_first kind.Semicolon _ both.0) c.advance.ensures in
     record {
       gives = λ s l h. Bodies.gather-field (rw both.1 at h) (Bodies.field-read (Bodies.headed _ true c.requires t n) m c.put.ensures);
       falls = omega (arith, Bodies.type-length t, Bodies.took-shorter n, Bodies.took-shorter m);
     }
 
-pub returns-in-err-method : goal.returns-in-err-method
-returns-in-err-method g c =
+pub returns-in_err-method : goal.returns-in_err-method
+returns-in_err-method g c =
     let p = c.args.self.now in
     let b = c.args.fields in
-    let t = c.in-ok-typed.ensures in
-    let n = c.in-ok-name.ensures in
-    let z = err_from_is_err_and c.from-residual-in-err-method.result c.from-residual-in-err-method.ensures.1 in
+    let t = c.in_ok-typed.ensures in
+    let n = c.in_ok-name.ensures in
+    let z = err_from_is_err_and c.from-residual-in_err-method.result c.from-residual-in_err-method.ensures.1 in
     record {
-      gives = λ s l h. rw (z.1, z.2) (Bodies.gather-fails _ b s p l _ h (c.in-err-method.ensures.gives p _ b (Bodies.headed _ b c.requires t n) (sym c.if-field-ends.ensures)));
+      gives = λ s l h. rw (z.1, z.2) (Bodies.gather-fails _ b s p l _ h (c.in_err-method.ensures.gives p _ b (Bodies.headed _ b c.requires t n) (sym c.if-field_ends.ensures)));
       falls = rw z.1 tt;
     }
 
@@ -62,10 +62,10 @@ pub returns : goal.returns
 returns g c =
     let p = c.args.self.now in
     let b = c.args.fields in
-    let t = c.in-ok-typed.ensures in
-    let n = c.in-ok-name.ensures in
-    let m = c.in-ok-method.ensures in
+    let t = c.in_ok-typed.ensures in
+    let n = c.in_ok-name.ensures in
+    let m = c.in_ok-method.ensures in
     record {
-      gives = λ s l h. Bodies.gather-method b s p _ l _ _ h (m.gives p _ b (Bodies.headed _ b c.requires t n) (sym c.if-field-ends.ensures));
+      gives = λ s l h. Bodies.gather-method b s p _ l _ _ h (m.gives p _ b (Bodies.headed _ b c.requires t n) (sym c.if-field_ends.ensures));
       falls = omega (arith, Bodies.type-length t, Bodies.took-shorter n, m.falls);
     }

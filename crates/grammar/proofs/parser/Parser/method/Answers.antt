@@ -41,153 +41,153 @@ at_name α = word kind.Name ∷ at_close α
 abbrev at_type : List Sym → List Sym
 at_type α = machine.typed ∷ at_name α
 
-pub returns-in-err-take : goal.returns-in-err-take
-returns-in-err-take g c =
+pub returns-in_err-take : goal.returns-in_err-take
+returns-in_err-take g c =
     let p = c.args.self.now in
     let z = err_from_is_err_and c.from-residual.result c.from-residual.ensures.1 in
     record {
-      gives = λ s l q h other. rw (z.1, z.2) (fails_after (members q) (word kind.OpenParen) at_type (λ α. h.leads α ∙ Expected.member-method q α (rest p) other) h.path.end_is c.in-err-take.ensures);
+      gives = λ s l q h other. rw (z.1, z.2) (fails_after (members q) (word kind.OpenParen) at_type (λ α. h.leads α ∙ Expected.member-method q α (rest p) other) h.path.end_is c.in_err-take.ensures);
       falls = rw z.1 tt;
     }
 
-pub returns-in-err-typed : goal.returns-in-err-typed
-returns-in-err-typed g c =
+pub returns-in_err-typed : goal.returns-in_err-typed
+returns-in_err-typed g c =
     let p = c.args.self.now in
-    let o = c.in-ok-take.ensures in
-    let z = err_from_is_err_and c.from-residual-in-err-typed.result c.from-residual-in-err-typed.ensures.1 in
+    let o = c.in_ok-take.ensures in
+    let z = err_from_is_err_and c.from-residual-in_err-typed.result c.from-residual-in_err-typed.ensures.1 in
     record {
-      gives = λ s l q h other. rw (z.1, z.2) (fails_after (members q) machine.typed at_name (λ α. h.leads α ∙ Expected.member-method q α (rest p) other ∙ took_leads o _) (o.end_is ∙ h.path.end_is) c.in-err-typed.ensures);
+      gives = λ s l q h other. rw (z.1, z.2) (fails_after (members q) machine.typed at_name (λ α. h.leads α ∙ Expected.member-method q α (rest p) other ∙ took_leads o _) (o.end_is ∙ h.path.end_is) c.in_err-typed.ensures);
       falls = rw z.1 tt;
     }
 
-pub returns-in-err-parameter : goal.returns-in-err-parameter
-returns-in-err-parameter g c =
+pub returns-in_err-parameter : goal.returns-in_err-parameter
+returns-in_err-parameter g c =
     let p = c.args.self.now in
-    let o = c.in-ok-take.ensures in
-    let t = c.in-ok-typed.ensures in
-    let z = err_from_is_err_and c.from-residual-in-err-parameter.result c.from-residual-in-err-parameter.ensures.1 in
+    let o = c.in_ok-take.ensures in
+    let t = c.in_ok-typed.ensures in
+    let z = err_from_is_err_and c.from-residual-in_err-parameter.result c.from-residual-in_err-parameter.ensures.1 in
     record {
-      gives = λ s l q h other. rw (z.1, z.2) (fails_after (members q) (word kind.Name) at_close (λ α. h.leads α ∙ Expected.member-method q α (rest p) other ∙ took_leads o _ ∙ t.leads _) (t.end_is ∙ o.end_is ∙ h.path.end_is) c.in-err-parameter.ensures);
+      gives = λ s l q h other. rw (z.1, z.2) (fails_after (members q) (word kind.Name) at_close (λ α. h.leads α ∙ Expected.member-method q α (rest p) other ∙ took_leads o _ ∙ t.leads _) (t.end_is ∙ o.end_is ∙ h.path.end_is) c.in_err-parameter.ensures);
       falls = rw z.1 tt;
     }
 
-pub returns-in-err-take-2 : goal.returns-in-err-take-2
-returns-in-err-take-2 g c =
+pub returns-in_err-take-2 : goal.returns-in_err-take-2
+returns-in_err-take-2 g c =
     let p = c.args.self.now in
-    let o = c.in-ok-take.ensures in
-    let t = c.in-ok-typed.ensures in
-    let n = c.in-ok-parameter.ensures in
-    let z = err_from_is_err_and c.from-residual-in-err-take-2.result c.from-residual-in-err-take-2.ensures.1 in
+    let o = c.in_ok-take.ensures in
+    let t = c.in_ok-typed.ensures in
+    let n = c.in_ok-parameter.ensures in
+    let z = err_from_is_err_and c.from-residual-in_err-take-2.result c.from-residual-in_err-take-2.ensures.1 in
     record {
-      gives = λ s l q h other. rw (z.1, z.2) (fails_after (members q) (word kind.CloseParen) at_open (λ α. h.leads α ∙ Expected.member-method q α (rest p) other ∙ took_leads o _ ∙ t.leads _ ∙ took_leads n _) (n.end_is ∙ t.end_is ∙ o.end_is ∙ h.path.end_is) c.in-err-take-2.ensures);
+      gives = λ s l q h other. rw (z.1, z.2) (fails_after (members q) (word kind.CloseParen) at_open (λ α. h.leads α ∙ Expected.member-method q α (rest p) other ∙ took_leads o _ ∙ t.leads _ ∙ took_leads n _) (n.end_is ∙ t.end_is ∙ o.end_is ∙ h.path.end_is) c.in_err-take-2.ensures);
       falls = rw z.1 tt;
     }
 
-pub returns-in-err-take-3 : goal.returns-in-err-take-3
-returns-in-err-take-3 g c =
+pub returns-in_err-take-3 : goal.returns-in_err-take-3
+returns-in_err-take-3 g c =
     let p = c.args.self.now in
-    let o = c.in-ok-take.ensures in
-    let t = c.in-ok-typed.ensures in
-    let n = c.in-ok-parameter.ensures in
-    let k = c.in-ok-take-2.ensures in
-    let z = err_from_is_err_and c.from-residual-in-err-take-3.result c.from-residual-in-err-take-3.ensures.1 in
+    let o = c.in_ok-take.ensures in
+    let t = c.in_ok-typed.ensures in
+    let n = c.in_ok-parameter.ensures in
+    let k = c.in_ok-take-2.ensures in
+    let z = err_from_is_err_and c.from-residual-in_err-take-3.result c.from-residual-in_err-take-3.ensures.1 in
     record {
-      gives = λ s l q h other. rw (z.1, z.2) (fails_after (members q) (word kind.OpenBrace) at_body (λ α. h.leads α ∙ Expected.member-method q α (rest p) other ∙ took_leads o _ ∙ t.leads _ ∙ took_leads n _ ∙ took_leads k _) (k.end_is ∙ n.end_is ∙ t.end_is ∙ o.end_is ∙ h.path.end_is) c.in-err-take-3.ensures);
+      gives = λ s l q h other. rw (z.1, z.2) (fails_after (members q) (word kind.OpenBrace) at_body (λ α. h.leads α ∙ Expected.member-method q α (rest p) other ∙ took_leads o _ ∙ t.leads _ ∙ took_leads n _ ∙ took_leads k _) (k.end_is ∙ n.end_is ∙ t.end_is ∙ o.end_is ∙ h.path.end_is) c.in_err-take-3.ensures);
       falls = rw z.1 tt;
     }
 
-pub returns-in-err-body : goal.returns-in-err-body
-returns-in-err-body g c =
+pub returns-in_err-body : goal.returns-in_err-body
+returns-in_err-body g c =
     let p = c.args.self.now in
-    let o = c.in-ok-take.ensures in
-    let t = c.in-ok-typed.ensures in
-    let n = c.in-ok-parameter.ensures in
-    let k = c.in-ok-take-2.ensures in
-    let b = c.in-ok-take-3.ensures in
-    let z = err_from_is_err_and c.from-residual-in-err-body.result c.from-residual-in-err-body.ensures.1 in
+    let o = c.in_ok-take.ensures in
+    let t = c.in_ok-typed.ensures in
+    let n = c.in_ok-parameter.ensures in
+    let k = c.in_ok-take-2.ensures in
+    let b = c.in_ok-take-3.ensures in
+    let z = err_from_is_err_and c.from-residual-in_err-body.result c.from-residual-in_err-body.ensures.1 in
     record {
-      gives = λ s l q h other. rw (z.1, z.2) (fails_after (members q) body at_return (λ α. h.leads α ∙ Expected.member-method q α (rest p) other ∙ took_leads o _ ∙ t.leads _ ∙ took_leads n _ ∙ took_leads k _ ∙ took_leads b _) (b.end_is ∙ k.end_is ∙ n.end_is ∙ t.end_is ∙ o.end_is ∙ h.path.end_is) c.in-err-body.ensures);
+      gives = λ s l q h other. rw (z.1, z.2) (fails_after (members q) body at_return (λ α. h.leads α ∙ Expected.member-method q α (rest p) other ∙ took_leads o _ ∙ t.leads _ ∙ took_leads n _ ∙ took_leads k _ ∙ took_leads b _) (b.end_is ∙ k.end_is ∙ n.end_is ∙ t.end_is ∙ o.end_is ∙ h.path.end_is) c.in_err-body.ensures);
       falls = rw z.1 tt;
     }
 
-pub returns-in-err-place : goal.returns-in-err-place
-returns-in-err-place g c =
+pub returns-in_err-place : goal.returns-in_err-place
+returns-in_err-place g c =
     let p = c.args.self.now in
-    let o = c.in-ok-take.ensures in
-    let t = c.in-ok-typed.ensures in
-    let n = c.in-ok-parameter.ensures in
-    let k = c.in-ok-take-2.ensures in
-    let b = c.in-ok-take-3.ensures in
-    let d = c.in-ok-body.ensures in
-    let z = err_from_is_err_and c.from-residual-in-err-place.result c.from-residual-in-err-place.ensures.1 in
+    let o = c.in_ok-take.ensures in
+    let t = c.in_ok-typed.ensures in
+    let n = c.in_ok-parameter.ensures in
+    let k = c.in_ok-take-2.ensures in
+    let b = c.in_ok-take-3.ensures in
+    let d = c.in_ok-body.ensures in
+    let z = err_from_is_err_and c.from-residual-in_err-place.result c.from-residual-in_err-place.ensures.1 in
     record {
-      gives = λ s l q h other. rw (z.1, z.2) (fails_after (members q) (word kind.Return) at_result (λ α. h.leads α ∙ Expected.member-method q α (rest p) other ∙ took_leads o _ ∙ t.leads _ ∙ took_leads n _ ∙ took_leads k _ ∙ took_leads b _ ∙ d.leads _) (d.path.end_is ∙ b.end_is ∙ k.end_is ∙ n.end_is ∙ t.end_is ∙ o.end_is ∙ h.path.end_is) c.in-err-place.ensures);
+      gives = λ s l q h other. rw (z.1, z.2) (fails_after (members q) (word kind.Return) at_result (λ α. h.leads α ∙ Expected.member-method q α (rest p) other ∙ took_leads o _ ∙ t.leads _ ∙ took_leads n _ ∙ took_leads k _ ∙ took_leads b _ ∙ d.leads _) (d.path.end_is ∙ b.end_is ∙ k.end_is ∙ n.end_is ∙ t.end_is ∙ o.end_is ∙ h.path.end_is) c.in_err-place.ensures);
       falls = rw z.1 tt;
     }
 
-pub returns-in-err-expr : goal.returns-in-err-expr
-returns-in-err-expr g c =
+pub returns-in_err-expr : goal.returns-in_err-expr
+returns-in_err-expr g c =
     let p = c.args.self.now in
-    let o = c.in-ok-take.ensures in
-    let t = c.in-ok-typed.ensures in
-    let n = c.in-ok-parameter.ensures in
-    let k = c.in-ok-take-2.ensures in
-    let b = c.in-ok-take-3.ensures in
-    let d = c.in-ok-body.ensures in
-    let r = c.in-ok-place.ensures in
-    let z = err_from_is_err_and c.from-residual-in-err-expr.result c.from-residual-in-err-expr.ensures.1 in
+    let o = c.in_ok-take.ensures in
+    let t = c.in_ok-typed.ensures in
+    let n = c.in_ok-parameter.ensures in
+    let k = c.in_ok-take-2.ensures in
+    let b = c.in_ok-take-3.ensures in
+    let d = c.in_ok-body.ensures in
+    let r = c.in_ok-place.ensures in
+    let z = err_from_is_err_and c.from-residual-in_err-expr.result c.from-residual-in_err-expr.ensures.1 in
     record {
-      gives = λ s l q h other. rw (z.1, z.2) (fails_after (members q) (start whole) at_semicolon (λ α. h.leads α ∙ Expected.member-method q α (rest p) other ∙ took_leads o _ ∙ t.leads _ ∙ took_leads n _ ∙ took_leads k _ ∙ took_leads b _ ∙ d.leads _ ∙ took_leads r _) (r.end_is ∙ d.path.end_is ∙ b.end_is ∙ k.end_is ∙ n.end_is ∙ t.end_is ∙ o.end_is ∙ h.path.end_is) c.in-err-expr.ensures);
+      gives = λ s l q h other. rw (z.1, z.2) (fails_after (members q) (start whole) at_semicolon (λ α. h.leads α ∙ Expected.member-method q α (rest p) other ∙ took_leads o _ ∙ t.leads _ ∙ took_leads n _ ∙ took_leads k _ ∙ took_leads b _ ∙ d.leads _ ∙ took_leads r _) (r.end_is ∙ d.path.end_is ∙ b.end_is ∙ k.end_is ∙ n.end_is ∙ t.end_is ∙ o.end_is ∙ h.path.end_is) c.in_err-expr.ensures);
       falls = rw z.1 tt;
     }
 
-pub returns-in-err-take-4 : goal.returns-in-err-take-4
-returns-in-err-take-4 g c =
+pub returns-in_err-take-4 : goal.returns-in_err-take-4
+returns-in_err-take-4 g c =
     let p = c.args.self.now in
-    let o = c.in-ok-take.ensures in
-    let t = c.in-ok-typed.ensures in
-    let n = c.in-ok-parameter.ensures in
-    let k = c.in-ok-take-2.ensures in
-    let b = c.in-ok-take-3.ensures in
-    let d = c.in-ok-body.ensures in
-    let r = c.in-ok-place.ensures in
-    let e = c.in-ok-expr.ensures in
-    let z = err_from_is_err_and c.from-residual-in-err-take-4.result c.from-residual-in-err-take-4.ensures.1 in
+    let o = c.in_ok-take.ensures in
+    let t = c.in_ok-typed.ensures in
+    let n = c.in_ok-parameter.ensures in
+    let k = c.in_ok-take-2.ensures in
+    let b = c.in_ok-take-3.ensures in
+    let d = c.in_ok-body.ensures in
+    let r = c.in_ok-place.ensures in
+    let e = c.in_ok-expr.ensures in
+    let z = err_from_is_err_and c.from-residual-in_err-take-4.result c.from-residual-in_err-take-4.ensures.1 in
     record {
-      gives = λ s l q h other. rw (z.1, z.2) (fails_after (members q) (word kind.Semicolon) at_brace (λ α. h.leads α ∙ Expected.member-method q α (rest p) other ∙ took_leads o _ ∙ t.leads _ ∙ took_leads n _ ∙ took_leads k _ ∙ took_leads b _ ∙ d.leads _ ∙ took_leads r _ ∙ e.leads _) (e.walk.end_is ∙ r.end_is ∙ d.path.end_is ∙ b.end_is ∙ k.end_is ∙ n.end_is ∙ t.end_is ∙ o.end_is ∙ h.path.end_is) c.in-err-take-4.ensures);
+      gives = λ s l q h other. rw (z.1, z.2) (fails_after (members q) (word kind.Semicolon) at_brace (λ α. h.leads α ∙ Expected.member-method q α (rest p) other ∙ took_leads o _ ∙ t.leads _ ∙ took_leads n _ ∙ took_leads k _ ∙ took_leads b _ ∙ d.leads _ ∙ took_leads r _ ∙ e.leads _) (e.walk.end_is ∙ r.end_is ∙ d.path.end_is ∙ b.end_is ∙ k.end_is ∙ n.end_is ∙ t.end_is ∙ o.end_is ∙ h.path.end_is) c.in_err-take-4.ensures);
       falls = rw z.1 tt;
     }
 
-pub returns-in-err-take-5 : goal.returns-in-err-take-5
-returns-in-err-take-5 g c =
+pub returns-in_err-take-5 : goal.returns-in_err-take-5
+returns-in_err-take-5 g c =
     let p = c.args.self.now in
-    let o = c.in-ok-take.ensures in
-    let t = c.in-ok-typed.ensures in
-    let n = c.in-ok-parameter.ensures in
-    let k = c.in-ok-take-2.ensures in
-    let b = c.in-ok-take-3.ensures in
-    let d = c.in-ok-body.ensures in
-    let r = c.in-ok-place.ensures in
-    let e = c.in-ok-expr.ensures in
-    let m = c.in-ok-take-4.ensures in
-    let z = err_from_is_err_and c.from-residual-in-err-take-5.result c.from-residual-in-err-take-5.ensures.1 in
+    let o = c.in_ok-take.ensures in
+    let t = c.in_ok-typed.ensures in
+    let n = c.in_ok-parameter.ensures in
+    let k = c.in_ok-take-2.ensures in
+    let b = c.in_ok-take-3.ensures in
+    let d = c.in_ok-body.ensures in
+    let r = c.in_ok-place.ensures in
+    let e = c.in_ok-expr.ensures in
+    let m = c.in_ok-take-4.ensures in
+    let z = err_from_is_err_and c.from-residual-in_err-take-5.result c.from-residual-in_err-take-5.ensures.1 in
     record {
-      gives = λ s l q h other. rw (z.1, z.2) (fails_after (members q) (word kind.CloseBrace) (λ α. members false ∷ α) (λ α. h.leads α ∙ Expected.member-method q α (rest p) other ∙ took_leads o _ ∙ t.leads _ ∙ took_leads n _ ∙ took_leads k _ ∙ took_leads b _ ∙ d.leads _ ∙ took_leads r _ ∙ e.leads _ ∙ took_leads m _) (m.end_is ∙ e.walk.end_is ∙ r.end_is ∙ d.path.end_is ∙ b.end_is ∙ k.end_is ∙ n.end_is ∙ t.end_is ∙ o.end_is ∙ h.path.end_is) c.in-err-take-5.ensures);
+      gives = λ s l q h other. rw (z.1, z.2) (fails_after (members q) (word kind.CloseBrace) (λ α. members false ∷ α) (λ α. h.leads α ∙ Expected.member-method q α (rest p) other ∙ took_leads o _ ∙ t.leads _ ∙ took_leads n _ ∙ took_leads k _ ∙ took_leads b _ ∙ d.leads _ ∙ took_leads r _ ∙ e.leads _ ∙ took_leads m _) (m.end_is ∙ e.walk.end_is ∙ r.end_is ∙ d.path.end_is ∙ b.end_is ∙ k.end_is ∙ n.end_is ∙ t.end_is ∙ o.end_is ∙ h.path.end_is) c.in_err-take-5.ensures);
       falls = rw z.1 tt;
     }
 
 pub returns : goal.returns
 returns g c =
-    let o = c.in-ok-take.ensures in
-    let t = c.in-ok-typed.ensures in
-    let n = c.in-ok-parameter.ensures in
-    let k = c.in-ok-take-2.ensures in
-    let b = c.in-ok-take-3.ensures in
-    let d = c.in-ok-body.ensures in
-    let r = c.in-ok-place.ensures in
-    let e = c.in-ok-expr.ensures in
-    let m = c.in-ok-take-4.ensures in
-    let f = c.in-ok-take-5.ensures in
+    let o = c.in_ok-take.ensures in
+    let t = c.in_ok-typed.ensures in
+    let n = c.in_ok-parameter.ensures in
+    let k = c.in_ok-take-2.ensures in
+    let b = c.in_ok-take-3.ensures in
+    let d = c.in_ok-body.ensures in
+    let r = c.in_ok-place.ensures in
+    let e = c.in_ok-expr.ensures in
+    let m = c.in_ok-take-4.ensures in
+    let f = c.in_ok-take-5.ensures in
     record {
       gives = λ s l q h other. Bodies.method-read h other o t n k b c.put.ensures d r e c.put-2.ensures m f;
       falls = omega (arith, Bodies.took-shorter o, Bodies.type-length t, Bodies.took-shorter n, Bodies.took-shorter k, Bodies.took-shorter b, Bodies.path-length d.path, Bodies.took-shorter r, e.walk.shorter, Bodies.took-shorter m, Bodies.took-shorter f);

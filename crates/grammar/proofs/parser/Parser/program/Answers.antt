@@ -17,10 +17,10 @@ pub loop-self-init : goal.loop-self-init
 loop-self-init g c = Bodies.some-none tree.decl decls _ _
 
 pub loop-self-preserved-in-Continue· : goal.loop-self-preserved-in-Continue·
-loop-self-preserved-in-Continue· g c = Bodies.some_more c.loop-self.invariant c.in-ok-class.ensures.gives
+loop-self-preserved-in-Continue· g c = Bodies.some_more c.loop-self.invariant c.in_ok-class.ensures.gives
 
 pub loop-self-preserved : goal.loop-self-preserved
-loop-self-preserved g c = Bodies.some_more c.loop-self.invariant c.in-ok-relationship.ensures.gives
+loop-self-preserved g c = Bodies.some_more c.loop-self.invariant c.in_ok-relationship.ensures.gives
 
 pub returns-else-sees-2 : goal.returns-else-sees-2
 returns-else-sees-2 g c =

@@ -17,7 +17,7 @@ pub returns-else-same : goal.returns-else-same
 returns-else-same c =
     let l = are_lines c.args.self.now in
     let ne = not_from_Decides c.same.result c.same.ensures c.if-same.false in
-    let r = c.kind-fits.result in
+    let r = c.kind_fits.result in
     let d : Decides r (Fits (ancestry c.args.self.now) c.args.s c.args.t) =
-    Decides-at r _ c.kind-fits.ensures (fits_apart l c.args.s c.args.t ne) in
+    Decides-at r _ c.kind_fits.ensures (fits_apart l c.args.s c.args.t ne) in
     record { relation = d; same = fits_same l c.args.s c.args.t r d; laws = fit_laws l }

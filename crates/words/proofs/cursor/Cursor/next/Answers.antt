@@ -22,15 +22,15 @@ pub returns-in_default : goal.returns-in_default
 returns-in_default c =
     let text = c.args.self.now.text.now in
     let at = c.args.self.now.at in
-    let none = front_from text (at + c.run-of.result) _ None c.front-of.ensures c.in_default.is in
-    let end = words_are text at c.run-of.result None c.run-of.ensures.is none in
+    let none = front_from text (at + c.run_of.result) _ None c.front_of.ensures c.in_default.is in
+    let end = words_are text at c.run_of.result None c.run_of.ensures.is none in
     (end, end)
 
-within : (c : goal.In-Some) → c.args.self.now.at + c.run-of.result + c.in-Some.field-0.size ≤ length c.args.self.now.text.now
+within : (c : goal.In-Some) → c.args.self.now.at + c.run_of.result + c.in-Some.field-0.size ≤ length c.args.self.now.text.now
 within c =
     let text = c.args.self.now.text.now in
-    let p = c.args.self.now.at + c.run-of.result in
-    let sized = front_sized (drop p text) c.in-Some.field-0 (front_from text p _ _ c.front-of.ensures c.in-Some.is) in
+    let p = c.args.self.now.at + c.run_of.result in
+    let sized = front_sized (drop p text) c.in-Some.field-0 (front_from text p _ _ c.front_of.ensures c.in-Some.is) in
     omega (arith, sized.some, sized.within, length-drop p text)
 
 pub overflow_add-self : goal.overflow_add-self
@@ -43,10 +43,10 @@ pub returns : goal.returns
 returns c =
     let text = c.args.self.now.text.now in
     let at = c.args.self.now.at in
-    let p = at + c.run-of.result in
+    let p = at + c.run_of.result in
     let f = c.in-Some.field-0 in
-    let some = front_from text p _ (Some f) c.front-of.ensures c.in-Some.is in
+    let some = front_from text p _ (Some f) c.front_of.ensures c.in-Some.is in
     let rest = sym (between_to_end text p (length text) (le_refl _)) in
     let all : f.size ≡ f.size - 0 = omega arith in
-    words_are text at c.run-of.result (Some f) c.run-of.ensures.is some
+    words_are text at c.run_of.result (Some f) c.run_of.ensures.is some
     ∙ (λ i. record { kind = f.kind; place = p; bytes = take (all i) (rest i) } ∷ cut (p + f.size) 0 (drop-drop f.size p text i))

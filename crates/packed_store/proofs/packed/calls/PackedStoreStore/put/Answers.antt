@@ -5,10 +5,10 @@ use Rattle.packed_store.specs.PackedSpans.{slot_reads, slot_end, slot_blank, slo
 use Rattle.packed_store.proofs.packed.calls.PackedStoreStore.put.Goals as goal
 
 pub offset_bounds-self-slot : goal.offset_bounds-self-slot
-offset_bounds-self-slot c = let e = slot_end c.args.self.now _ _ _ c.in-ok-slot.ensures in omega arith
+offset_bounds-self-slot c = let e = slot_end c.args.self.now _ _ _ c.in_ok-slot.ensures in omega arith
 
 pub bounds-self-slot : goal.bounds-self-slot
-bounds-self-slot c = let e = slot_end c.args.self.now _ _ _ c.in-ok-slot.ensures in omega arith
+bounds-self-slot c = let e = slot_end c.args.self.now _ _ _ c.in_ok-slot.ensures in omega arith
 
 pub invariant_of-self : goal.invariant_of-self
 invariant_of-self c =
@@ -20,7 +20,7 @@ invariant_of-self c =
           simp length-set s.room,
           (
             s.within,
-            (s.sum, (s.small, (s.begins, (slot_blank s _ _ _ c.args.value c.in-ok-slot.ensures, tt)))),
+            (s.sum, (s.small, (s.begins, (slot_blank s _ _ _ c.args.value c.in_ok-slot.ensures, tt)))),
           ),
         ),
       ),
@@ -30,7 +30,7 @@ pub returns : goal.returns
 unfolding packed_model
 returns c =
     let s = c.args.self.now in
-    let w = c.in-ok-slot.ensures in
+    let w = c.in_ok-slot.ensures in
     record {
       answer = ap done (slot_reads s _ _ _ c.args.value w);
       after = ap packed (slot_cells s _ _ _ c.args.value w);
