@@ -8,7 +8,7 @@ returns-in-Name c =
     let s = c.args.s.now in
     let some : 0 < length s = search rules in
     let begins-name = front_at s some ∙ ap (λ b. Some (begun b s)) (sym c.in-Name.ensures) in
-    let all : c.run-of_size.result - 0 ≡ c.run-of_size.result = omega arith in
-    let size = c.run-of_size.ensures.is in
+    let all : c.run_of-size.result - 0 ≡ c.run_of-size.result = omega arith in
+    let size = c.run_of-size.ensures.is in
     let named = c.name_kind.ensures in
     cc

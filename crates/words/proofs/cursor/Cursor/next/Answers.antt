@@ -37,7 +37,7 @@ pub overflow_add-self : goal.overflow_add-self
 overflow_add-self c = let h = within c in search rules
 
 pub invariant_of-self : goal.invariant_of-self
-invariant_of-self c = (within c, tt)
+invariant_of-self c = record { within = within c }
 
 pub returns : goal.returns
 returns c =
