@@ -29,19 +29,17 @@ invariant_of-self c =
     let s = c.args.self.now in
     let q : Span = record { head = c.args.head; start = s.filled; count = c.args.fields } in
     let h = c.if-self-ge128.false in
-    let l = c.if-fields-gt8.false in (
-      simp length-set s.whole,
-      (
-        omega arith,
-        (
-          s.room,
-          (
-            omega arith,
-            (more_sum s q refl l h, (more_small s q refl l h, (more_begins s q refl l h, (more_blank s c.args.fields, tt)))),
-          ),
-        ),
-      ),
-    )
+    let l = c.if-fields-gt8.false in
+    record {
+      whole = simp length-set s.whole;
+      few = omega arith;
+      room = s.room;
+      within = omega arith;
+      sum = more_sum s q refl l h;
+      small = more_small s q refl l h;
+      begins = more_begins s q refl l h;
+      blank = more_blank s c.args.fields;
+    }
 
 pub returns : goal.returns
 unfolding packed_model

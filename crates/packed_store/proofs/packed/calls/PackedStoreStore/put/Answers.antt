@@ -12,19 +12,17 @@ bounds-self-slot c = let e = slot_end c.args.self.now _ _ _ c.in_ok-slot.ensures
 
 pub invariant_of-self : goal.invariant_of-self
 invariant_of-self c =
-    let s = c.args.self.now in (
-      s.whole,
-      (
-        s.few,
-        (
-          simp length-set s.room,
-          (
-            s.within,
-            (s.sum, (s.small, (s.begins, (slot_blank s _ _ _ c.args.value c.in_ok-slot.ensures, tt)))),
-          ),
-        ),
-      ),
-    )
+    let s = c.args.self.now in
+    record {
+      whole = s.whole;
+      few = s.few;
+      room = simp length-set s.room;
+      within = s.within;
+      sum = s.sum;
+      small = s.small;
+      begins = s.begins;
+      blank = slot_blank s _ _ _ c.args.value c.in_ok-slot.ensures;
+    }
 
 pub returns : goal.returns
 unfolding packed_model
