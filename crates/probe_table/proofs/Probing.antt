@@ -1,16 +1,16 @@
 -- Rows in places: what is held, what a change of one place leaves, and that rows stay reached.
-use Rattle.std.proofs.Common.{◌≡◌, ℕ, zero, suc, ◌+◌, ◌-◌, ◌*◌, ◌%◌, ◌<◌, ◌≤◌, Bool, true, false, cond, ◌&&◌, ◌⊎◌, List, [], ◌∷◌, ◌++◌, length, get_or, take, drop, set, replicate, Some, None, Option, sym, refl, ap, ◌∙◌, subst, ap₂, inl, inr, add-one, arith, length-append, length-set}
+use Rattle.std.proofs.Common.{◌≡◌, ℕ, zero, suc, ◌+◌, ◌-◌, ◌*◌, ◌%◌, ◌<◌, ◌≤◌, Bool, true, false, cond, ◌⊎◌, List, [], ◌∷◌, ◌++◌, length, take, drop, set, replicate, Some, None, sym, refl, ap, ◌∙◌, subst, inl, inr, arith, length-append}
 use lib.Seq.{split_at, set_split}
-use Rattle.std.proofs.lemmas.List.{append-nil, append_assoc, get_or-set_same, get_or-set_other, take_more, take_all}
+use Rattle.std.proofs.lemmas.List.{append-nil, get_or-set_same, get_or-set_other, take_more, take_all}
 use Rattle.std.proofs.lemmas.Bool.{both_ways, cases_lt, cases_eq, and_parts}
 use Rattle.std.proofs.lemmas.Nat.{mod_below}
 use Rattle.pairs.specs.declared.row.Row.{Row}
 use Rattle.probe_table.specs.declared.place.Place.{Place}
 use Rattle.probe_table.specs.declared.place.Place.TheVariants.{Free, Dropped, Held}
-use Rattle.pairs.specs.Rows.{alike, in_force, apart, small, all_small, Small}
+use Rattle.pairs.specs.Rows.{in_force, apart, small, all_small, Small}
 use Rattle.probe_table.specs.Probing.{held, used, is_free, is_held, holds, place_at, start, along, Reached, Open, Same}
 use Rattle.pairs.specs.Changes.{Added}
-use Rattle.pairs.proofs.Rows.{joins, place_of, alike_parts, alike_self, in_force_nil, in_force_cons, in_force_here, in_force_more, all_small_more, apart_less, small_row, none_left}
+use Rattle.pairs.proofs.Rows.{joins, place_of, alike_parts, in_force_nil, in_force_cons, in_force_here, in_force_more, all_small_more, apart_less, small_row, none_left}
 use Rattle.pairs.proofs.Changed.{Grown, Gone, grown, gone}
 
 -- ---- what is held

@@ -1,5 +1,5 @@
 -- Rows in 512 places, each found by going on from a place that its three numbers give.
-use Rattle.std.specs.Prelude.{◌≡◌, ℕ, ◌+◌, ◌*◌, ◌%◌, ◌<◌, ◌≤◌, Bool, true, false, cond, List, [], ◌∷◌, length, Some, None, Option, slice_index_or}
+use Rattle.std.specs.Prelude.{◌≡◌, ℕ, ◌+◌, ◌*◌, ◌%◌, ◌<◌, Bool, true, false, cond, List, [], ◌∷◌, length, Some, None, Option, slice_index_or}
 use Rattle.pairs.specs.declared.row.Row.{Row}
 use Rattle.probe_table.specs.declared.place.Place.{Place}
 use Rattle.probe_table.specs.declared.place.Place.TheVariants.{Free, Dropped, Held}

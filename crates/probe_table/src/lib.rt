@@ -1,10 +1,12 @@
 // A pair table that reaches a row by probing from a place that its three numbers give.
+#![tactic(auto)]
+
 ghost use Rattle.std.specs.Prelude.{◌≡◌, ℕ, ◌+◌, ◌<◌, ◌≤◌, true, List, [], length, Some, None};
 ghost use Rattle.pairs.specs.Gathering.{Gathered};
 ghost use Rattle.pairs.specs.Rows.{apart, all_small, in_force, Small};
 ghost use Rattle.pairs.specs.Changes.{Added};
 ghost use Rattle.probe_table.specs.Probing.{held, used, start, along, Reached, Located, Open, Same};
-ghost use Rattle.std.proofs.Common.{rules, arith};
+ghost use Rattle.std.proofs.Common.{rules};
 
 mod place;
 
@@ -161,13 +163,13 @@ impl PairTable for ProbeTable {
 
     ghost limit = { λ t. 256 };
 
-    ghost differ = { first_of (Prim.search rules, Prim.grind (arith, Self.row.coded.inj)) };
+    ghost differ = { Prim.search rules };
 
-    ghost little = { first_of (Prim.search rules, Prim.grind (arith, Self.row.coded.inj)) };
+    ghost little = { Prim.search rules };
 
-    ghost within = { first_of (Prim.search rules, Prim.grind (arith, Self.row.coded.inj)) };
+    ghost within = { Prim.search rules };
 
-    ghost bounds = { first_of (Prim.search rules, Prim.grind (arith, Self.row.coded.inj)) };
+    ghost bounds = { Prim.search rules };
 
     fn clear(&mut self) {
         *self = ProbeTable::new();

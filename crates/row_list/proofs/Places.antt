@@ -1,12 +1,12 @@
 -- Rows by their place in a list: the row at a place, a list without it, and a row at the end.
-use Rattle.std.proofs.Common.{◌≡◌, ℕ, zero, suc, ◌+◌, ◌-◌, ◌<◌, ◌≤◌, Bool, true, false, cond, ◌&&◌, ◌⊎◌, List, [], ◌∷◌, ◌++◌, length, get_or, take, drop, set, Some, None, Option, sym, refl, ap, ◌∙◌, subst, ap₂, inl, inr, add-one, arith, length-append, length-take}
+use Rattle.std.proofs.Common.{◌≡◌, ℕ, zero, suc, ◌+◌, ◌-◌, ◌<◌, ◌≤◌, Bool, true, false, cond, List, [], ◌∷◌, ◌++◌, length, take, drop, set, Some, None, sym, refl, ap, ◌∙◌, subst, inl, inr, arith, length-append, length-take}
 use lib.Seq.{split_at, set_split, take-set-lt, take-set-le}
 use Rattle.std.proofs.lemmas.List.{append-nil, append_assoc, set_past, get_or_append_left, get_or_at, get_or-take, length-take-le, take_more, take_more_set}
-use Rattle.std.proofs.lemmas.Bool.{and_parts, and_from, cases_lt}
+use Rattle.std.proofs.lemmas.Bool.{and_parts, cases_lt}
 use Rattle.pairs.specs.declared.row.Row.{Row}
 use Rattle.pairs.specs.Rows.{in_force, apart, small, all_small, Small}
 use Rattle.row_list.specs.Places.{row_at}
-use Rattle.pairs.proofs.Rows.{joins, alike_same, place_of, in_force_cons, in_force_nil, in_force_more, in_force_less, in_force_here, apart_more, apart_less, all_small_more, length_more, small_row, row_small}
+use Rattle.pairs.proofs.Rows.{joins, place_of, in_force_more, in_force_here, apart_less, all_small_more, small_row}
 use Rattle.pairs.proofs.Changed.{Grown, Gone, grown, grown_push, gone}
 
 -- what stands at a place past the end

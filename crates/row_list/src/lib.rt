@@ -1,9 +1,11 @@
 // A pair table that looks at its rows one after another.
+#![tactic(auto)]
+
 ghost use Rattle.std.specs.Prelude.{◌≡◌, ℕ, ◌+◌, ◌<◌, ◌≤◌, true, List, [], length, take};
 ghost use Rattle.pairs.specs.Gathering.{Gathered};
 ghost use Rattle.pairs.specs.Rows.{apart, all_small};
 ghost use Rattle.row_list.specs.Places.{Placed};
-ghost use Rattle.std.proofs.Common.{rules, arith};
+ghost use Rattle.std.proofs.Common.{rules};
 
 use cells::CellSet;
 use pairs::row::{Asked, PutRefusal, Row, judged};
@@ -75,13 +77,13 @@ impl PairTable for RowList {
 
     ghost limit = { λ t. 256 };
 
-    ghost differ = { first_of (Prim.search rules, Prim.grind (arith, Self.row.coded.inj)) };
+    ghost differ = { Prim.search rules };
 
-    ghost little = { first_of (Prim.search rules, Prim.grind (arith, Self.row.coded.inj)) };
+    ghost little = { Prim.search rules };
 
-    ghost within = { first_of (Prim.search rules, Prim.grind (arith, Self.row.coded.inj)) };
+    ghost within = { Prim.search rules };
 
-    ghost bounds = { first_of (Prim.search rules, Prim.grind (arith, Self.row.coded.inj)) };
+    ghost bounds = { Prim.search rules };
 
     fn clear(&mut self) {
         self.count = 0;

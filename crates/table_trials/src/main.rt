@@ -1,5 +1,7 @@
 // Trials of the pair tables and of sets of cells against plain lists.
 // With an argument it measures how fast the tables are instead.
+#![tactic(auto)]
+
 mod dice;
 mod limits;
 mod model;

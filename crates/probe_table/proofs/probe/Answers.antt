@@ -1,4 +1,4 @@
-use Rattle.std.proofs.Common.{◌+◌, ◌*◌, ◌%◌, ◌<◌, refl, arith}
+use Rattle.std.proofs.Common.{refl}
 use Rattle.probe_table.specs.Probing.{along, start}
 use Rattle.probe_table.proofs.Probing.{along_below}
 use Rattle.probe_table.proofs.probe.Goals as goal

@@ -1,4 +1,4 @@
-use Rattle.std.proofs.Common.{◌<◌, ◌≤◌, arith}
+use Rattle.std.proofs.Common.{arith}
 use Rattle.probe_table.proofs.Probing.{same_refl}
 use Rattle.probe_table.proofs.ProbeTable.freshen.Goals as goal
 

@@ -1,4 +1,4 @@
-use Rattle.std.proofs.Common.{◌≡◌, ◌+◌, ◌<◌, ◌≤◌, List, length, take, sym, ap, ◌∙◌, subst, arith}
+use Rattle.std.proofs.Common.{◌+◌, List, take, sym, ◌∙◌, subst, arith}
 use Rattle.cells.specs.declared.CellSet.{CellSet}
 use Rattle.pairs.specs.declared.row.Row.{Row}
 use Rattle.probe_table.specs.Probing.{held}

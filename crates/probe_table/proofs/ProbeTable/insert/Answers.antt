@@ -1,4 +1,4 @@
-use Rattle.std.proofs.Common.{◌<◌, ◌≤◌, length, refl, ◌∙◌, arith, length-set}
+use Rattle.std.proofs.Common.{refl, ◌∙◌, arith, length-set}
 use Rattle.probe_table.specs.declared.place.Place.TheVariants.{Held}
 use Rattle.probe_table.proofs.Probing.{grown_place, used_set, reached_put}
 use Rattle.probe_table.proofs.ProbeTable.insert.Goals as goal
@@ -13,22 +13,17 @@ pub invariant_of-self : goal.invariant_of-self
 invariant_of-self c =
     let self = c.args.self.now in
     let to = c.room-place.ensures in
-    let more = grown_place self.places c.room-place.result (omega arith) c.args.row to.vacant c.requires.absent self.differ self.little c.requires.fit in (
-      length-set self.places c.room-place.result _ ∙ self.whole,
-      (
-        omega (arith, more.added.count),
-        (
-          omega arith,
-          (
-            omega arith,
-            (
-              omega (arith, used_set self.places c.room-place.result (Held c.args.row), self.roomy),
-              (more.differ, (more.little, (reached_put self.places self.whole self.reached c.args.row c.room-place.result to, tt))),
-            ),
-          ),
-        ),
-      ),
-    )
+    let more = grown_place self.places c.room-place.result (omega arith) c.args.row to.vacant c.requires.absent self.differ self.little c.requires.fit in
+    record {
+      whole = length-set self.places c.room-place.result _ ∙ self.whole;
+      counted = omega (arith, more.added.count);
+      few = omega arith;
+      fresh = omega arith;
+      roomy = omega (arith, used_set self.places c.room-place.result (Held c.args.row), self.roomy);
+      differ = more.differ;
+      little = more.little;
+      reached = reached_put self.places self.whole self.reached c.args.row c.room-place.result to;
+    }
 
 pub returns : goal.returns
 returns c =

@@ -1,8 +1,7 @@
-use Rattle.std.proofs.Common.{◌≡◌, ◌+◌, ◌<◌, ◌≤◌, List, length, take, sym, ap, ◌∙◌, subst, arith}
-use Rattle.pairs.specs.declared.row.Row.{Row}
+use Rattle.std.proofs.Common.{◌≡◌, ◌+◌, ◌<◌, length, take, sym, ap, ◌∙◌, subst, arith}
 use Rattle.probe_table.specs.declared.ProbeTable.{ProbeTable}
-use Rattle.probe_table.specs.Probing.{held, place_at, Same}
-use Rattle.probe_table.proofs.Probing.{Next, next_row, same_nil, same_more, held_next_row, held_next_none, held_all, not_held}
+use Rattle.probe_table.specs.Probing.{held, Same}
+use Rattle.probe_table.proofs.Probing.{next_row, same_nil, same_more, held_next_row, held_next_none, held_all, not_held}
 use Rattle.probe_table.proofs.ProbeTable.relaid.Goals as goal
 use Rattle.probe_table.proofs.ProbeTable.relaid.Goals.{in-Held, in_default}
 

@@ -1,5 +1,5 @@
-use Rattle.std.proofs.Common.{◌≡◌, ℕ, ◌<◌, ◌≤◌, true, length, sym, ap, ◌∙◌, inl, inr, arith, below_more}
-use Rattle.probe_table.specs.Probing.{held, is_held, is_free, place_at, along, Open}
+use Rattle.std.proofs.Common.{◌≡◌, ℕ, true, length, sym, ap, ◌∙◌, inl, inr, arith, below_more}
+use Rattle.probe_table.specs.Probing.{held, is_held, place_at, along}
 use Rattle.probe_table.proofs.Probing.{way_full, held_not_free}
 use Rattle.probe_table.proofs.ProbeTable.room.Goals as goal
 

@@ -1,4 +1,4 @@
-use Rattle.std.proofs.Common.{◌-◌, ◌<◌, ◌≤◌, length, refl, ap, ◌∙◌, arith, length-set}
+use Rattle.std.proofs.Common.{refl, ap, ◌∙◌, arith, length-set}
 use Rattle.pairs.proofs.Rows.{alike_self}
 use Rattle.pairs.proofs.Changed.{dropped}
 use Rattle.probe_table.specs.declared.place.Place.TheVariants.{Dropped}
@@ -16,22 +16,17 @@ pub invariant_of-self : goal.invariant_of-self
 invariant_of-self c =
     let self = c.args.self.now in
     let there = c.in-Some.ensures in
-    let goes = gone_place self.places c.in-Some.place (omega arith) _ there.1 self.differ self.little in (
-      length-set self.places c.in-Some.place _ ∙ self.whole,
-      (
-        omega (arith, goes.count, self.counted),
-        (
-          omega arith,
-          (
-            omega arith,
-            (
-              omega (arith, used_reset self.places c.in-Some.place Dropped (omega arith) (ap is_free there.1), self.roomy),
-              (goes.differ, (goes.little, (reached_dropped self.places self.whole self.reached c.in-Some.place (omega arith), tt))),
-            ),
-          ),
-        ),
-      ),
-    )
+    let goes = gone_place self.places c.in-Some.place (omega arith) _ there.1 self.differ self.little in
+    record {
+      whole = length-set self.places c.in-Some.place _ ∙ self.whole;
+      counted = omega (arith, goes.count, self.counted);
+      few = omega arith;
+      fresh = omega arith;
+      roomy = omega (arith, used_reset self.places c.in-Some.place Dropped (omega arith) (ap is_free there.1), self.roomy);
+      differ = goes.differ;
+      little = goes.little;
+      reached = reached_dropped self.places self.whole self.reached c.in-Some.place (omega arith);
+    }
 
 pub returns : goal.returns
 returns c =

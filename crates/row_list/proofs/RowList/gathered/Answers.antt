@@ -1,4 +1,4 @@
-use Rattle.std.proofs.Common.{◌≡◌, ◌+◌, ◌<◌, ◌≤◌, List, [], ◌∷◌, ◌++◌, length, take, sym, ap, ◌∙◌, subst, arith, length-take, get_or-take}
+use Rattle.std.proofs.Common.{◌≡◌, ◌+◌, List, [], ◌∷◌, ◌++◌, take, sym, ◌∙◌, subst, arith, length-take, get_or-take}
 use Rattle.std.proofs.lemmas.List.{take_more}
 use Rattle.cells.specs.declared.CellSet.{CellSet}
 use Rattle.pairs.specs.declared.row.Row.{Row}

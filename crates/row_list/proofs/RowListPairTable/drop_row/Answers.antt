@@ -1,4 +1,4 @@
-use Rattle.std.proofs.Common.{◌-◌, ◌<◌, ◌≤◌, length, take, set, refl, ◌∙◌, arith, length-set, length-take}
+use Rattle.std.proofs.Common.{refl, ◌∙◌, arith, length-set}
 use Rattle.row_list.specs.Places.{row_at}
 use Rattle.pairs.proofs.Changed.{dropped}
 use Rattle.row_list.proofs.Places.{gone_placed, in_force_among}

@@ -1,4 +1,4 @@
-use Rattle.std.proofs.Common.{◌<◌, ◌≤◌, false, leb, length, sym, refl, ap, ◌∙◌, arith, length-set, length-take}
+use Rattle.std.proofs.Common.{◌<◌, sym, refl, ◌∙◌, arith, length-set, length-take}
 use Rattle.std.proofs.lemmas.Bool.{leb-false, lt-leb}
 use Rattle.row_list.proofs.Places.{grown_at}
 use Rattle.row_list.proofs.RowListPairTable.put.Goals as goal
