@@ -1,8 +1,8 @@
 -- Laws of membership, for the proofs that cite sets of cells.
-use Rattle.std.proofs.Common.{◌≡◌, ℕ, suc, ◌+◌, ◌-◌, ◌<◌, ◌≤◌, Bool, true, false, cond, ◌&&◌, ◌⊎◌, sym, refl, ap, ◌∙◌, inl, inr, ⊎_elim, arith}
+use Rattle.std.proofs.Common.{◌≡◌, ℕ, ◌+◌, ◌-◌, ◌<◌, ◌≤◌, Bool, false, ◌&&◌, ◌⊎◌, sym, refl, ap, ◌∙◌, inl, inr, ⊎_elim, arith}
 use Rattle.std.proofs.lemmas.Bool.{cases_lt, lt-ltb}
 use Rattle.cells.specs.declared.CellSet.{CellSet}
-use Rattle.cells.specs.Members.{bit, has, Words, digits, gathered, none}
+use Rattle.cells.specs.Members.{has, Words, gathered, none}
 use Rattle.cells.proofs.Digits.{same_bits, bit_of_zero, digits_below, bit_digits}
 use Rattle.cells.proofs.Words.{has_low, has_high, by_words, same_words}
 pub use Rattle.cells.proofs.Digits.{counted_none, counted_more, counted_same, counted_add}

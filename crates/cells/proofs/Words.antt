@@ -1,5 +1,5 @@
 -- Membership word by word: inner lemmas of the sets' calls.
-use Rattle.std.proofs.Common.{◌≡◌, ℕ, zero, suc, ◌+◌, ◌-◌, ◌*◌, ◌/◌, ◌%◌, ◌^◌, ◌<◌, ◌≤◌, Bool, true, false, cond, not, ◌&&◌, ◌||◌, eqb, ltb, ◌⊎◌, sym, refl, ap, ◌∙◌, ap₂, inl, inr, ⊎_elim, arith}
+use Rattle.std.proofs.Common.{◌≡◌, ℕ, ◌+◌, ◌-◌, ◌*◌, ◌%◌, ◌^◌, ◌<◌, ◌≤◌, Bool, true, false, not, ◌&&◌, ◌||◌, eqb, ltb, sym, refl, ap, ◌∙◌, ap₂, ⊎_elim, arith}
 use lib.Bits.{bit_and, bit_or}
 use lib.Count.{ones}
 use Rattle.std.proofs.lemmas.Nat.{one_shl, or_lt, and_le_l, mod_below}
@@ -7,7 +7,7 @@ use Rattle.std.proofs.lemmas.Bool.{cases_lt, lt-ltb, le-ltb}
 use Rattle.std.proofs.lemmas.Bool.Decides.{nat_tests}
 use Rattle.cells.specs.declared.CellSet.{CellSet}
 use Rattle.cells.specs.Members.{bit, has, Words, counted}
-use Rattle.cells.proofs.Digits.{bit-bit_or, bit-bit_and, bit_not, bit_pow, same_bits, counted_same, counted_add, ones_counted}
+use Rattle.cells.proofs.Digits.{bit-bit_or, bit-bit_and, bit_not, bit_pow, counted_same, counted_add, ones_counted}
 
 pub has_low : (s : CellSet) (k : ℕ) → k < 64 → has s k ≡ bit s.low k
 unfolding has

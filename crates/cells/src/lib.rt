@@ -1,4 +1,6 @@
 // Sets of cells: one bit for each of 128 cells, in two words of 64 bits.
+#![tactic(auto)]
+
 ghost use Rattle.std.specs.Prelude.{◌≡◌, ℕ, ◌+◌, ◌<◌, true, false, not, ◌&&◌, ◌||◌, ◌==◌, nat_lt};
 ghost use Rattle.cells.specs.Members.{has, none, Words, counted, Lowest, Renumbered};
 

@@ -1,5 +1,5 @@
 -- How the parts of types, statements and declarations join.
-use Rattle.std.proofs.Common.{◌≡◌, ℕ, ◌+◌, ◌<◌, ◌≤◌, Bool, true, false, ◌&&◌, List, [], ◌∷◌, ◌++◌, length, Some, None, Ok, Err, Result, sym, refl, ap, ◌∙◌, subst, append_assoc, append-nil, arith, length-append}
+use Rattle.std.proofs.Common.{◌≡◌, ℕ, ◌<◌, ◌≤◌, Bool, true, false, ◌&&◌, List, [], ◌∷◌, ◌++◌, length, Some, Ok, Err, Result, sym, refl, ap, ◌∙◌, append_assoc, append-nil, arith, length-append}
 use Rattle.words.specs.declared.kind.Kind.{Kind}
 use Rattle.words.specs.declared.kind.Kind.TheVariants as kind
 use Rattle.words.specs.Words.{Token}
@@ -10,12 +10,12 @@ use Rattle.grammar.specs.declared.event.Event.TheVariants as event
 use Rattle.grammar.specs.declared.parser.Parser.{Parser}
 use Rattle.grammar.specs.declared.parser.reading.Unexpected.{Unexpected}
 use Rattle.grammar.specs.Bodies.{Path, FailsAll, ReadType, ReadTree, ReadAction, ReadBlock, ReadBody, Headed, ReadMembers, HeldPlace, ReadHeading, ReadEnds, ReadInside, ReadBoth, Gathered, GivesTree, GivesBody, GivesInside, GivesProgram, Finished, Falls, ReadProgram, FailsProgram}
-use Rattle.grammar.specs.Events.{events, fed, first_item, first_place, first_action, type_of}
-use Rattle.grammar.specs.Machine.{Sym, word, start, more, typed as type-symbol, decls, members, member, body, stmts, runs, step, begin, onward, ends, type_then, statement, branches, method_rest, class_rest, relationship_rest, inner_set, Use, whole, acting, Form, bare, inner, done, plain, closes, settable}
-use Rattle.grammar.specs.Told.{rest, kind_at, place_at, seen, variable_begins, type_begins, statement_begins, Took, Fails, Leads, Walk, ReadExpr, ReadItem, HeldBare, HeldInner, ReadDone}
+use Rattle.grammar.specs.Events.{events, fed}
+use Rattle.grammar.specs.Machine.{Sym, word, start, typed as type-symbol, decls, members, member, body, stmts, runs, step, type_then, statement, branches, class_rest, relationship_rest, inner_set, acting, bare, inner, done, plain}
+use Rattle.grammar.specs.Told.{rest, kind_at, place_at, seen, variable_begins, type_begins, statement_begins, Took, Fails, Walk, ReadExpr, ReadItem, HeldBare, HeldInner, ReadDone}
 use Rattle.grammar.specs.Trees.{Mark, tok, Sort, many, Tree, expr, action, stmt, typed, variable, method, decl, none, inside, assigns, act, branch, boolean, set_of, row, declares, method_of, class, relationship, spell}
 use Rattle.grammar.specs.Trees as tree
-use Rattle.grammar.proofs.Expected.{typed_name, members_type, members_done, member_method, stmts_item, stmts_done, decls_done, acting_place, acting_stuck, body_variable, body_stmts}
+use Rattle.grammar.proofs.Expected.{typed_name, members_type, members_done, member_method, stmts_item, decls_done, acting_place, acting_stuck, body_variable, body_stmts}
 use Rattle.grammar.proofs.Items.{fed_append, put_last, last_spells, last_reports}
 use Rattle.grammar.proofs.Steps.{step_leads, took_leads, more_done, fails_after}
 

@@ -1,15 +1,15 @@
 -- What is expected, in other symbols.
-use Rattle.std.proofs.Common.{◌≡◌, ℕ, Bool, true, false, cond, ◌&&◌, ◌||◌, List, [], ◌∷◌, Some, None, Option, sym, refl, ap, ◌∙◌, inl, inr}
-use Rattle.std.proofs.lemmas.Bool.{cases_Bool, and_left, and_right, or_parts, and_cases}
+use Rattle.std.proofs.Common.{◌≡◌, Bool, true, false, cond, ◌&&◌, ◌||◌, List, [], ◌∷◌, Some, None, Option, sym, refl, ap, ◌∙◌}
+use Rattle.std.proofs.lemmas.Bool.{and_right, or_parts}
 use Rattle.words.specs.declared.kind.Kind.{Kind}
 use Rattle.words.specs.declared.kind.Kind.TheVariants as kind
 use Rattle.words.specs.Kinds.{is}
 use Rattle.words.specs.Words.{Token}
-use Rattle.grammar.specs.Machine.{Sym, word, start, more, typed, decls, members, member, body, opening, stmts, runs, step, begin, onward, type_then, statement, ends, either, method_rest, branches, Use, whole, acting, Form, bare, done, plain, fresh, inner_set, closes, settable, literal_word}
+use Rattle.grammar.specs.Machine.{Sym, word, start, more, typed, decls, members, member, body, opening, stmts, runs, step, begin, onward, type_then, statement, ends, either, method_rest, branches, whole, acting, Form, bare, done, plain, fresh, inner_set, closes, settable, literal_word}
 use Rattle.grammar.specs.Told.{kind_at, seen, variable_begins, type_begins, statement_begins, statement_word}
 use Rattle.grammar.proofs.Passing.{never_true}
-use Rattle.grammar.proofs.Steps.{ne_first, stuck_at, not_kind}
-use Rattle.grammar.proofs.WordKinds.{is_same, is_true}
+use Rattle.grammar.proofs.Steps.{ne_first}
+use Rattle.grammar.proofs.WordKinds.{is_true}
 
 -- two lists of symbols expect the same where they do at the first word and at the end
 same_runs : (α β : List Sym) (ws : List Token) → ends α ≡ ends β → ((w : Token) (us : List Token) → ws ≡ w ∷ us → step α w.kind ≡ step β w.kind) → runs α ws ≡ runs β ws

@@ -1,5 +1,5 @@
 -- How the parts of an item join.
-use Rattle.std.proofs.Common.{◌≡◌, ℕ, zero, suc, ◌+◌, ◌<◌, ◌≤◌, Bool, true, false, List, [], ◌∷◌, ◌++◌, length, replicate, Some, None, sym, refl, ap, ◌∙◌, subst, ap₂, append_assoc, append-nil, arith, length-append}
+use Rattle.std.proofs.Common.{◌≡◌, ℕ, zero, suc, ◌+◌, ◌≤◌, Bool, true, false, List, [], ◌∷◌, ◌++◌, length, replicate, Some, sym, refl, ap, ◌∙◌, subst, append_assoc, append-nil, arith, length-append}
 use Rattle.words.specs.declared.kind.Kind.{Kind}
 use Rattle.words.specs.declared.kind.Kind.TheVariants as kind
 use Rattle.words.specs.Words.{Token}
@@ -8,9 +8,9 @@ use Rattle.grammar.specs.declared.event.Event.TheVariants as event
 use Rattle.grammar.specs.declared.parser.Parser.{Parser}
 use Rattle.grammar.specs.declared.parser.items.Found.{Found}
 use Rattle.grammar.specs.declared.parser.items.Found.TheVariants as found
-use Rattle.grammar.specs.Events.{events, fed, first_atom, first_item, first_creation, first_action, value_of, doing_of, side_of}
-use Rattle.grammar.specs.Machine.{Sym, word, start, more, dotted, named, runs, step, begin, onward, after_dot, ends, fresh, two, alone_is, settable, Use, whole, operand, acting, Form, bare, inner, done, plain}
-use Rattle.grammar.specs.Told.{rest, kind_at, place_at, reads_of, form_of, AfterDot, Named, DottedBare, ReadTarget, Took, Fails, Leads, Walk, ReadExpr, ReadItem, HeldBare, HeldInner, ReadDone, Finds, FailsItem, Gone}
+use Rattle.grammar.specs.Events.{events, fed, first_atom, first_item, value_of, doing_of, side_of}
+use Rattle.grammar.specs.Machine.{Sym, word, start, more, dotted, named, step, begin, onward, after_dot, fresh, two, alone_is, settable, Use, whole, operand, Form, bare, inner, done, plain}
+use Rattle.grammar.specs.Told.{rest, kind_at, reads_of, form_of, AfterDot, Named, DottedBare, ReadTarget, Took, Leads, Walk, ReadExpr, ReadItem, HeldBare, HeldInner, ReadDone, Finds, Gone}
 use Rattle.grammar.specs.Trees.{Mark, tok, Sort, many, suffix, Tree, expr, item, atom, creation, place, action, none, name, literal, paren, made, new, pair, member, call, instances, end, chain, inside, alone, equal, assign, calls, creates, spell, literal_kind, pairing_kind, end_kind}
 use Rattle.grammar.specs.Trees as tree
 use Rattle.grammar.proofs.Steps.{step_leads, took_leads, named_done, more_done}

@@ -1,13 +1,13 @@
 -- One word is passed, or cannot come.
-use Rattle.std.proofs.Common.{◌≡◌, ℕ, ◌+◌, ◌≤◌, Bool, true, false, cond, List, [], ◌∷◌, length, Some, None, Option, sym, refl, ap, ◌∙◌, arith}
+use Rattle.std.proofs.Common.{◌≡◌, ℕ, ◌+◌, ◌≤◌, true, false, List, [], ◌∷◌, length, Some, None, Option, sym, refl, ap, ◌∙◌, arith}
 use Rattle.words.specs.declared.kind.Kind.{Kind}
 use Rattle.words.specs.declared.cursor.Cursor.{Cursor}
 use Rattle.words.specs.declared.cursor.Word.{Word}
 use Rattle.words.specs.Kinds.{is}
-use Rattle.words.specs.Words.{Token, told, unread, Reads}
+use Rattle.words.specs.Words.{Token, unread, Reads}
 use Rattle.grammar.specs.declared.parser.Parser.{Parser}
 use Rattle.grammar.specs.declared.parser.reading.Unexpected.{Unexpected}
-use Rattle.grammar.specs.Machine.{Sym, word, runs, step, ends, either}
+use Rattle.grammar.specs.Machine.{Sym, word, runs, step, ends}
 use Rattle.grammar.specs.Told.{from_word, rest, kind_at, seen, place_at, Passed, Took, Fails}
 use Rattle.grammar.specs.Trees.{Mark, tok}
 use Rattle.grammar.proofs.WordKinds.{is_same, is_other, is_true}

@@ -4,7 +4,7 @@ use Rattle.words.specs.declared.kind.Kind.{Kind}
 use Rattle.words.specs.declared.kind.Kind.TheVariants as kind
 use Rattle.words.specs.Words.{Token}
 use Rattle.grammar.specs.Trees.{Literal, true, false, null, this, Pairing, add, rem, End, from, to, literal_kind, pairing_kind, end_kind}
-use Rattle.grammar.specs.Trees.{Sort, item, atom, creation, suffix, place, typed, many}
+use Rattle.grammar.specs.Trees.{Sort, item, atom, creation, suffix, typed, many}
 use Rattle.grammar.specs.Trees.{Mark, spell, Tree, none, more, name, literal, paren, made, new, pair, member, call, instances, end, chain, bare, inside, alone, equal, assign, assigns, calls, creates, act, branch, boolean, set_of, row, declares, method_of, class, relationship}
 
 -- a word as a value of its kind and mark

@@ -1,5 +1,5 @@
 -- What one word, or none, does to what is expected.
-use Rattle.std.proofs.Common.{◌≡◌, ℕ, Bool, true, false, cond, ◌&&◌, ◌||◌, List, [], ◌∷◌, Some, None, Option, sym, refl, ap, ◌∙◌, inl, inr}
+use Rattle.std.proofs.Common.{◌≡◌, ℕ, Bool, true, false, ◌&&◌, List, [], ◌∷◌, Some, None, sym, refl, ap, ◌∙◌, inl, inr}
 use Rattle.std.proofs.lemmas.Bool.{cases_Bool, and_left, and_right}
 use Rattle.words.specs.declared.kind.Kind.{Kind}
 use Rattle.words.specs.declared.kind.Kind.TheVariants as kind
@@ -7,9 +7,9 @@ use Rattle.words.specs.Kinds.{is}
 use Rattle.words.specs.Words.{Token}
 use Rattle.grammar.specs.declared.parser.Parser.{Parser}
 use Rattle.grammar.specs.declared.parser.reading.Unexpected.{Unexpected}
-use Rattle.grammar.specs.Machine.{Sym, word, start, more, dotted, named, runs, step, begin, onward, after_dot, ends, either, Use, whole, operand, acting, Form, bare, inner, done, plain, closes, compares, assigns, settable, literal_word}
+use Rattle.grammar.specs.Machine.{Sym, word, start, more, named, runs, step, begin, onward, ends, either, Use, Form, inner, closes, compares, assigns, settable, literal_word}
 use Rattle.grammar.specs.Told.{rest, kind_at, place_at, Took, Fails, Leads}
-use Rattle.grammar.specs.Trees.{Mark, tok}
+use Rattle.grammar.specs.Trees.{tok}
 use Rattle.grammar.proofs.WordKinds.{is_same, is_other, is_true}
 
 -- a word that may come

@@ -1,6 +1,5 @@
 -- What the parser's methods say of types, statements and declarations.
 use Rattle.std.specs.Prelude.{◌≡◌, ℕ, ◌<◌, Bool, true, false, List, [], ◌∷◌, ◌++◌, length, Some, Ok, Err, Result}
-use Rattle.words.specs.declared.kind.Kind.{Kind}
 use Rattle.words.specs.declared.kind.Kind.TheVariants as kind
 use Rattle.words.specs.Words.{Token}
 use Rattle.grammar.specs.declared.event.TypeWord.{TypeWord}
@@ -10,7 +9,7 @@ use Rattle.grammar.specs.declared.parser.reading.Unexpected.{Unexpected}
 use Rattle.grammar.specs.Events.{events, fed, first_place, first_action, type_of}
 use Rattle.grammar.specs.Machine.{Sym, word, start, typed as type-symbol, decls, members, member, body, stmts, acting, whole, runs}
 use Rattle.grammar.specs.Told.{rest, place_at, Leads, Fails}
-use Rattle.grammar.specs.Trees.{Mark, tok, Sort, Tree, place, many, action, stmt, typed, variable, method, decl, Program, spell}
+use Rattle.grammar.specs.Trees.{Mark, tok, Sort, Tree, place, many, action, stmt, typed, variable, method, Program, spell}
 
 -- from p to q the words ws are passed, and the events es take the sink from l to m, where `after` says what each does
 pub record Path {X : Type 0} (after : X → Event → X) (p : Parser) (l : X) (q : Parser) (m : X) (ws : List Token) (es : List Event) : Type 0 where

@@ -1,4 +1,6 @@
 // The grammar: which texts are programs, and where a text that is none stops being the beginning of one.
+#![tactic(auto)]
+
 pub mod event;
 pub mod judge;
 pub mod parse;

@@ -1,5 +1,5 @@
-use Rattle.std.proofs.Common.{◌^◌, ◌<◌, ◌≤◌, arith}
-use lib.Count.{ones, ones-le}
+use Rattle.std.proofs.Common.{arith}
+use lib.Count.{ones-le}
 use Rattle.cells.proofs.Words.{size_words}
 use Rattle.cells.proofs.CellSet.size.Goals as goal
 

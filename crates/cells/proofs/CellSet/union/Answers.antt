@@ -1,4 +1,4 @@
-use Rattle.std.proofs.Common.{◌+◌, ◌^◌, ◌<◌, ◌||◌, sym, ◌∙◌, ap₂, arith}
+use Rattle.std.proofs.Common.{◌||◌, sym, ◌∙◌, ap₂, arith}
 use Rattle.std.proofs.lemmas.Nat.{or_lt}
 use Rattle.cells.specs.Members.{has}
 use Rattle.cells.proofs.Digits.{bit-bit_or}

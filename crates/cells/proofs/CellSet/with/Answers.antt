@@ -1,6 +1,6 @@
-use Rattle.std.proofs.Common.{◌≡◌, ◌+◌, ◌-◌, ◌^◌, ◌<◌, ◌||◌, sym, ap, ◌∙◌, arith, rules}
+use Rattle.std.proofs.Common.{◌+◌, ◌-◌, ◌||◌, ap, ◌∙◌, arith}
 use Rattle.cells.specs.Members.{bit}
-use Rattle.cells.proofs.Words.{with_words, bit_set, or_apart, eqb_high, or_fits, has_past}
+use Rattle.cells.proofs.Words.{with_words, bit_set, or_apart, eqb_high, or_fits}
 use Rattle.cells.proofs.CellSet.with.Goals as goal
 
 pub returns-then-cell-lt64 : goal.returns-then-cell-lt64

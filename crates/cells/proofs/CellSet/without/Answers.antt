@@ -1,6 +1,6 @@
-use Rattle.std.proofs.Common.{◌≡◌, ◌+◌, ◌-◌, ◌^◌, ◌<◌, not, ◌&&◌, sym, ap, ◌∙◌, arith, rules}
+use Rattle.std.proofs.Common.{◌+◌, ◌-◌, not, ◌&&◌, ap, ◌∙◌, arith}
 use Rattle.cells.specs.Members.{bit}
-use Rattle.cells.proofs.Words.{without_words, bit_cleared, and_apart, eqb_high, and_fits, has_past}
+use Rattle.cells.proofs.Words.{without_words, bit_cleared, and_apart, eqb_high, and_fits}
 use Rattle.cells.proofs.CellSet.without.Goals as goal
 
 pub returns-then-cell-lt64 : goal.returns-then-cell-lt64

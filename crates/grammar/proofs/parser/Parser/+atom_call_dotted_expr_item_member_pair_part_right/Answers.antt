@@ -1,4 +1,4 @@
-use Rattle.std.proofs.Common.{◌≡◌, ◌+◌, [], ◌∷◌, replicate, Some, sym, refl, ap, ◌∙◌, arith}
+use Rattle.std.proofs.Common.{◌≡◌, [], ◌∷◌, replicate, Some, sym, refl, ap, ◌∙◌, arith}
 use mir.Facts.{Fits-below}
 use Rattle.words.specs.declared.kind.Kind.TheVariants as kind
 use Rattle.grammar.specs.declared.event.Event.TheVariants as event

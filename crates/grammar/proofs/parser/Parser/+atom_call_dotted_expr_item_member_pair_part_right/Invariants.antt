@@ -1,9 +1,8 @@
-use Rattle.std.proofs.Common.{◌≡◌, ◌+◌, ◌*◌, ◌≤◌, List, ◌++◌, length, replicate}
-use Rattle.grammar.specs.declared.event.Event.{Event}
+use Rattle.std.proofs.Common.{◌≡◌, ◌+◌, ◌*◌, ◌≤◌, length, replicate}
 use Rattle.grammar.specs.declared.event.Event.TheVariants.{Assigned}
 use Rattle.grammar.specs.declared.parser.Parser.{Parser}
 use Rattle.grammar.specs.Events.{fed}
-use Rattle.grammar.specs.Told.{rest, place_at, Finds}
+use Rattle.grammar.specs.Told.{rest, Finds}
 use Rattle.grammar.proofs.Items.{Chained}
 use Rattle.grammar.proofs.parser.Parser.+atom_call_dotted_expr_item_member_pair_part_right.Given as goal
 

@@ -1,4 +1,4 @@
-use Rattle.std.proofs.Common.{◌≡◌, ◌≤◌, length, ap, arith}
+use Rattle.std.proofs.Common.{◌≤◌, length, ap, arith}
 use Rattle.words.proofs.Surveying.{cut_few}
 use Rattle.words.specs.Words.{unread}
 use Rattle.grammar.proofs.Passing.{fewer}

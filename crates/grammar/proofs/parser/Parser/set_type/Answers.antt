@@ -1,15 +1,10 @@
-use Rattle.std.proofs.Common.{◌≡◌, List, ◌∷◌, Some, Ok, Err, sym, refl, ap, ◌∙◌, subst, arith}
+use Rattle.std.proofs.Common.{◌∷◌, ◌∙◌}
 use Rattle.std.proofs.lemmas.Result.{err_from_is_err_and}
 use Rattle.words.specs.declared.kind.Kind.TheVariants as kind
-use Rattle.grammar.specs.Bodies as bodies
 use Rattle.grammar.specs.Machine as machine
 use Rattle.grammar.specs.Machine.{Sym, word, start, stmts, body, decls, members, whole, acting}
-use Rattle.grammar.specs.Told as told
-use Rattle.grammar.specs.Told.{rest, kind_at}
-use Rattle.grammar.specs.Trees as tree
 use Rattle.grammar.proofs.Bodies
-use Rattle.grammar.proofs.Expected
-use Rattle.grammar.proofs.Passing.{took, seen_first, unseen_first}
+use Rattle.grammar.proofs.Passing.{took}
 use Rattle.grammar.proofs.Steps.{took_leads, fails_after}
 use Rattle.grammar.proofs.parser.Parser.set_type.Goals as goal
 

@@ -1,4 +1,4 @@
-use Rattle.std.proofs.Common.{◌≡◌, sym, ap, ◌∙◌, subst}
+use Rattle.std.proofs.Common.{sym, subst}
 use Rattle.grammar.specs.Told.{Took}
 use Rattle.grammar.proofs.Passing.{took, fails, seen_first, unseen_first}
 use Rattle.grammar.proofs.parser.Parser.take.Goals as goal
