@@ -2,7 +2,7 @@ ghost use Rattle.std.specs.Prelude.{◌≡◌, length};
 ghost use Rattle.outline.specs.Contents.{contents};
 ghost use Rattle.tables.specs.Below.{tabulated};
 ghost use Rattle.tables.specs.Listed.{listed};
-ghost use Rattle.program.specs.Model.{owner_of, method_called, first_called, dispatch_of, method_of_row};
+ghost use Rattle.program.specs.Model.{owner_of, method_called, first_called, dispatch_of, method_of_variable};
 
 use crate::code::Dispatch;
 use outline::contents::Outline;
@@ -106,7 +106,7 @@ struct MethodsOfVariables<'a> {
 impl<'a> Rule for MethodsOfVariables<'a> {
     type Item = usize;
 
-    ghost item = { λ s i. method_of_row (contents s.outline.now) i };
+    ghost item = { λ s i. method_of_variable (contents s.outline.now) i };
 
     fn item_at(&self, i: usize) -> usize {
         match self.outline.variables.get(i) {
@@ -140,7 +140,7 @@ pub(crate) fn method_dispatches<'a>(text: &'a [u8], outline: &'a Outline) -> Tab
 }
 
 pub(crate) fn variable_methods(outline: &Outline) -> Table<usize, 704>
-    ensures { listed result ≡ tabulated (method_of_row (contents outline.now)) (length (contents outline.now).variables) }
+    ensures { listed result ≡ tabulated (method_of_variable (contents outline.now)) (length (contents outline.now).variables) }
 {
     let mut variables = Table::new(0);
     fill(

@@ -1,5 +1,5 @@
 -- A table as a list.
-use Rattle.std.specs.Prelude.{◌≡◌, ℕ, ◌+◌, ◌-◌, ◌≤◌, Bool, true, false, List, length, take, Option, nat_lt, slice_set, refl}
+use Rattle.std.specs.Prelude.{◌≡◌, ℕ, ◌+◌, ◌-◌, Bool, true, false, List, length, take, Option, nat_lt, slice_set, refl}
 use Rattle.std.proofs.Common.{◌∙◌, arith, ltb-true, length-set}
 use Rattle.std.specs.List.{slice_get}
 use Rattle.tables.specs.declared.table.Table.{Table}

@@ -3,8 +3,7 @@ use Rattle.std.proofs.Common.{◌≡◌, ℕ, zero, suc, pred, ◌+◌, ◌<◌,
 use Rattle.std.proofs.lemmas.List.Sums.{prefix_len-le-length}
 use Rattle.std.proofs.lemmas.Bool.{or_left}
 use Rattle.std.specs.List.{prefix_len}
-use Rattle.words.specs.declared.bytes.Begins.{Begins}
-use Rattle.words.specs.declared.bytes.Begins.TheVariants.{Name, Sign, Nothing}
+use Rattle.words.specs.declared.bytes.Begins.TheVariants.{Name, Sign}
 use Rattle.words.specs.declared.kind.Kind.{Kind}
 use Rattle.words.specs.declared.kind.Kind.TheVariants.{Assign, Equal}
 use Rattle.words.specs.declared.spelling.Front.{Front}

@@ -1,5 +1,5 @@
 -- What is said of a text before its grammar is looked at.
-use Rattle.std.specs.Prelude.{ℕ, Bool, cond, List, [], ◌∷◌, length, Some, None, Ok, Err, Option, Result, nat_lt}
+use Rattle.std.specs.Prelude.{ℕ, cond, List, [], ◌∷◌, length, Some, None, Ok, Err, Option, Result, nat_lt}
 use Rattle.words.specs.declared.kind.Kind.TheVariants.{Fault}
 use Rattle.words.specs.declared.refusal.Unreadable.{Unreadable}
 use Rattle.words.specs.declared.refusal.Unreadable.TheVariants.{TooLong, NotAllowed, TooDeep}

@@ -1,4 +1,6 @@
 // The reader of words: cuts a model text into names, keywords and signs.
+#![tactic(auto)]
+
 mod bytes;
 pub mod cursor;
 pub mod kind;

@@ -3,4 +3,4 @@ use Rattle.pairs.proofs.Rows.{apart_nil, all_small_nil}
 use Rattle.row_list.proofs.RowListPairTable.clear.Goals as goal
 
 pub invariant_of-self : goal.invariant_of-self
-invariant_of-self c = (c.args.self.now.whole, (omega arith, (apart_nil, (all_small_nil, tt))))
+invariant_of-self c = record { whole = c.args.self.now.whole; few = omega arith; differ = apart_nil; little = all_small_nil }

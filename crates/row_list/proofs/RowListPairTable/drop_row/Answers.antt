@@ -8,7 +8,7 @@ pub invariant_of-self : goal.invariant_of-self
 invariant_of-self c =
     let self = c.args.self.now in
     let goes = gone_placed self.items self.count c.in-Some.place (omega arith) c.in-Some.ensures.0 self.differ self.little in
-    (length-set self.items c.in-Some.place _ ∙ self.whole, (omega arith, (goes.differ, (goes.little, tt))))
+    record { whole = length-set self.items c.in-Some.place _ ∙ self.whole; few = omega arith; differ = goes.differ; little = goes.little }
 
 pub returns : goal.returns
 returns c =

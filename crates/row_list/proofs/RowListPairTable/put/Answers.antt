@@ -9,7 +9,7 @@ invariant_of-self c =
     let good = c.in_ok-judged.ensures in
     let l : self.count < 256 = leb-false 256 self.count good.2 in
     let more = grown_at self.items self.count c.args.row (omega arith) (sym c.find-present.ensures ∙ good.1) self.differ self.little good.0 in
-    (length-set self.items self.count _ ∙ self.whole, (omega arith, (more.differ, (more.little, tt))))
+    record { whole = length-set self.items self.count _ ∙ self.whole; few = omega arith; differ = more.differ; little = more.little }
 
 pub returns : goal.returns
 returns c =

@@ -1,4 +1,4 @@
-use Rattle.std.proofs.Common.{◌≡◌, ◌+◌, ◌≤◌, length, Some, None, Ok, sym, refl, ap, ◌∙◌, subst, arith, rules}
+use Rattle.std.proofs.Common.{◌+◌, ◌≤◌, length, Ok, sym, ap, ◌∙◌, arith, rules}
 use Rattle.words.specs.declared.refusal.Unreadable.TheVariants.{TooDeep}
 use Rattle.words.specs.Surveys.{refused_at, extent}
 use Rattle.words.specs.Words.{told, unread}

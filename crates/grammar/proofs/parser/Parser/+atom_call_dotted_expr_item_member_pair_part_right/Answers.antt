@@ -14,60 +14,60 @@ use Rattle.grammar.proofs.parser.Parser.+atom_call_dotted_expr_item_member_pair_
 pub atom-returns-in_default : goal.atom-returns-in_default
 atom-returns-in_default g t c = end_fails (sym c.in_default.ensures) c.place-place.ensures
 
-pub atom-returns-in_err-class : goal.atom-returns-in_err-class
-atom-returns-in_err-class g t c =
-    let x = failed c.from-residual.result c.from-residual.ensures.1 in
+pub atom-returns-in_err-class-in-New : goal.atom-returns-in_err-class-in-New
+atom-returns-in_err-class-in-New g t c =
+    let x = failed c.from_residual.result c.from_residual.ensures.1 in
     let p = c.args.self.now in
     let w = took kind.New p c.advance-in-New.new.self (sym c.in-Some.ensures ∙ ap Some c.in-New.is) c.advance-in-New.ensures in
-    item_exit _ _ _ _ _ x (reach_fails (reach_new w) c.in_err-class.ensures)
+    item_exit _ _ _ _ _ x (reach_fails (reach_new w) c.in_err-class-in-New.ensures)
 
-pub atom-returns-in_err-take : goal.atom-returns-in_err-take
-atom-returns-in_err-take g t c =
-    let x = failed c.from-residual-in_err-take.result c.from-residual-in_err-take.ensures.1 in
+pub atom-returns-in_err-take-in-New : goal.atom-returns-in_err-take-in-New
+atom-returns-in_err-take-in-New g t c =
+    let x = failed c.from_residual-in_err-take-in-New.result c.from_residual-in_err-take-in-New.ensures.1 in
     let p = c.args.self.now in
     let w = took kind.New p c.advance-in-New.new.self (sym c.in-Some.ensures ∙ ap Some c.in-New.is) c.advance-in-New.ensures in
-    let n = c.in_ok-class.ensures in
-    item_exit _ _ _ _ _ x (reach_fails (reach_word (reach_new w) n) c.in_err-take.ensures)
+    let n = c.in_ok-class-in-New.ensures in
+    item_exit _ _ _ _ _ x (reach_fails (reach_word (reach_new w) n) c.in_err-take-in-New.ensures)
 
-pub atom-returns-in_err-take-2 : goal.atom-returns-in_err-take-2
-atom-returns-in_err-take-2 g t c =
-    let x = failed c.from-residual-in_err-take-2.result c.from-residual-in_err-take-2.ensures.1 in
+pub atom-returns-in_err-take-in-New-2 : goal.atom-returns-in_err-take-in-New-2
+atom-returns-in_err-take-in-New-2 g t c =
+    let x = failed c.from_residual-in_err-take-in-New-2.result c.from_residual-in_err-take-in-New-2.ensures.1 in
     let p = c.args.self.now in
     let w = took kind.New p c.advance-in-New.new.self (sym c.in-Some.ensures ∙ ap Some c.in-New.is) c.advance-in-New.ensures in
-    let n = c.in_ok-class.ensures in
-    let o = c.in_ok-take.ensures in
-    item_exit _ _ _ _ _ x (reach_fails (reach_word (reach_word (reach_new w) n) o) c.in_err-take-2.ensures)
+    let n = c.in_ok-class-in-New.ensures in
+    let o = c.in_ok-take-in-New.ensures in
+    item_exit _ _ _ _ _ x (reach_fails (reach_word (reach_word (reach_new w) n) o) c.in_err-take-in-New-2.ensures)
 
-pub atom-returns-in_err-expr : goal.atom-returns-in_err-expr
-atom-returns-in_err-expr g t c =
-    let x = failed c.from-residual-in_err-expr.result c.from-residual-in_err-expr.ensures.1 in
+pub atom-returns-in_err-expr-in-OpenParen : goal.atom-returns-in_err-expr-in-OpenParen
+atom-returns-in_err-expr-in-OpenParen g t c =
+    let x = failed c.from_residual-in_err-expr-in-OpenParen.result c.from_residual-in_err-expr-in-OpenParen.ensures.1 in
     let p = c.args.self.now in
     let o = took kind.OpenParen p c.advance-in-OpenParen.new.self (sym c.in-Some.ensures ∙ ap Some c.in-OpenParen.is) c.advance-in-OpenParen.ensures in
-    item_exit _ _ _ _ _ x (reach_fails (reach_paren o) c.in_err-expr.ensures)
+    item_exit _ _ _ _ _ x (reach_fails (reach_paren o) c.in_err-expr-in-OpenParen.ensures)
 
-pub atom-returns-in_err-take-3 : goal.atom-returns-in_err-take-3
-atom-returns-in_err-take-3 g t c =
-    let x = failed c.from-residual-in_err-take-3.result c.from-residual-in_err-take-3.ensures.1 in
+pub atom-returns-in_err-take-in-OpenParen : goal.atom-returns-in_err-take-in-OpenParen
+atom-returns-in_err-take-in-OpenParen g t c =
+    let x = failed c.from_residual-in_err-take-in-OpenParen.result c.from_residual-in_err-take-in-OpenParen.ensures.1 in
     let p = c.args.self.now in
     let o = took kind.OpenParen p c.advance-in-OpenParen.new.self (sym c.in-Some.ensures ∙ ap Some c.in-OpenParen.is) c.advance-in-OpenParen.ensures in
-    let e = c.in_ok-expr.ensures in
-    item_exit _ _ _ _ _ x (reach_fails (reach_expr (reach_paren o) e) c.in_err-take-3.ensures)
+    let e = c.in_ok-expr-in-OpenParen.ensures in
+    item_exit _ _ _ _ _ x (reach_fails (reach_expr (reach_paren o) e) c.in_err-take-in-OpenParen.ensures)
 
 pub atom-returns-in-Name : goal.atom-returns-in-Name
 atom-returns-in-Name g t c = bare_held _ (took kind.Name c.args.self.now c.advance.new.self (sym c.in-Some.ensures ∙ ap Some c.in-Name.is) c.advance.ensures)
 
-pub atom-returns-in_ok-take-2 : goal.atom-returns-in_ok-take-2
-atom-returns-in_ok-take-2 g t c =
+pub atom-returns-in_ok-take-in-New-2 : goal.atom-returns-in_ok-take-in-New-2
+atom-returns-in_ok-take-in-New-2 g t c =
     let p = c.args.self.now in
     let w = took kind.New p c.advance-in-New.new.self (sym c.in-Some.ensures ∙ ap Some c.in-New.is) c.advance-in-New.ensures in
-    let put = c.put.ensures ∙ ap (λ a. g.S.Sink.after c.args.sink.now (event.New c.in_ok-class.class a)) c.place-place.ensures in
-    new_done w c.in_ok-class.ensures c.in_ok-take.ensures c.in_ok-take-2.ensures put
+    let put = c.put.ensures ∙ ap (λ a. g.S.Sink.after c.args.sink.now (event.New c.in_ok-class-in-New.class a)) c.place-place.ensures in
+    new_done w c.in_ok-class-in-New.ensures c.in_ok-take-in-New.ensures c.in_ok-take-in-New-2.ensures put
 
-pub atom-returns-in_ok-take-3 : goal.atom-returns-in_ok-take-3
-atom-returns-in_ok-take-3 g t c =
+pub atom-returns-in_ok-take-in-OpenParen : goal.atom-returns-in_ok-take-in-OpenParen
+atom-returns-in_ok-take-in-OpenParen g t c =
     let p = c.args.self.now in
     let o = took kind.OpenParen p c.advance-in-OpenParen.new.self (sym c.in-Some.ensures ∙ ap Some c.in-OpenParen.is) c.advance-in-OpenParen.ensures in
-    paren_plain o c.in_ok-expr.ensures c.in_ok-take-3.ensures c.put-in-OpenParen.ensures
+    paren_plain o c.in_ok-expr-in-OpenParen.ensures c.in_ok-take-in-OpenParen.ensures c.put-in-OpenParen.ensures
 
 pub atom-returns-in-Some-literal_of : goal.atom-returns-in-Some-literal_of
 atom-returns-in-Some-literal_of g t c =
@@ -82,7 +82,7 @@ atom-returns-in-None g t c =
 
 pub call-returns-in_err-expr : goal.call-returns-in_err-expr
 call-returns-in_err-expr g t c =
-    let x = failed c.from-residual.result c.from-residual.ensures.1 in
+    let x = failed c.from_residual.result c.from_residual.ensures.1 in
     let p = c.args.self.now in
     let o = took kind.OpenParen p c.advance.new.self c.requires c.advance.ensures in
     record {
@@ -92,7 +92,7 @@ call-returns-in_err-expr g t c =
 
 pub call-returns-in_err-take : goal.call-returns-in_err-take
 call-returns-in_err-take g t c =
-    let x = failed c.from-residual-in_err-take.result c.from-residual-in_err-take.ensures.1 in
+    let x = failed c.from_residual-in_err-take.result c.from_residual-in_err-take.ensures.1 in
     let p = c.args.self.now in
     let o = took kind.OpenParen p c.advance.new.self c.requires c.advance.ensures in
     let e = c.in_ok-expr.ensures in
@@ -173,7 +173,7 @@ member-returns-then-sees-2 g t c =
 
 pub member-returns-in_err-name : goal.member-returns-in_err-name
 member-returns-in_err-name g t c =
-    let x = failed c.from-residual.result c.from-residual.ensures.1 in
+    let x = failed c.from_residual.result c.from_residual.ensures.1 in
     let p = c.args.self.now in
     record {
       goes = goes_exit p _ x;
@@ -195,7 +195,7 @@ member-returns-else-sees-3 g t c =
 
 pub pair-returns-in_err-take : goal.pair-returns-in_err-take
 pair-returns-in_err-take g t c =
-    let x = failed c.from-residual.result c.from-residual.ensures.1 in
+    let x = failed c.from_residual.result c.from_residual.ensures.1 in
     let p = c.args.self.now in
     let y = pairing_of c.args.pairing in
     let a = pairing_took c.args.pairing p c.advance.new.self c.requires c.advance.ensures in
@@ -206,7 +206,7 @@ pair-returns-in_err-take g t c =
 
 pub pair-returns-in_err-expr : goal.pair-returns-in_err-expr
 pair-returns-in_err-expr g t c =
-    let x = failed c.from-residual-in_err-expr.result c.from-residual-in_err-expr.ensures.1 in
+    let x = failed c.from_residual-in_err-expr.result c.from_residual-in_err-expr.ensures.1 in
     let p = c.args.self.now in
     let y = pairing_of c.args.pairing in
     let a = pairing_took c.args.pairing p c.advance.new.self c.requires c.advance.ensures in
@@ -218,7 +218,7 @@ pair-returns-in_err-expr g t c =
 
 pub pair-returns-in_err-take-2 : goal.pair-returns-in_err-take-2
 pair-returns-in_err-take-2 g t c =
-    let x = failed c.from-residual-in_err-take-2.result c.from-residual-in_err-take-2.ensures.1 in
+    let x = failed c.from_residual-in_err-take-2.result c.from_residual-in_err-take-2.ensures.1 in
     let p = c.args.self.now in
     let y = pairing_of c.args.pairing in
     let a = pairing_took c.args.pairing p c.advance.new.self c.requires c.advance.ensures in
@@ -231,7 +231,7 @@ pair-returns-in_err-take-2 g t c =
 
 pub pair-returns-in_err-expr-2 : goal.pair-returns-in_err-expr-2
 pair-returns-in_err-expr-2 g t c =
-    let x = failed c.from-residual-in_err-expr-2.result c.from-residual-in_err-expr-2.ensures.1 in
+    let x = failed c.from_residual-in_err-expr-2.result c.from_residual-in_err-expr-2.ensures.1 in
     let p = c.args.self.now in
     let y = pairing_of c.args.pairing in
     let a = pairing_took c.args.pairing p c.advance.new.self c.requires c.advance.ensures in
@@ -245,7 +245,7 @@ pair-returns-in_err-expr-2 g t c =
 
 pub pair-returns-in_err-take-3 : goal.pair-returns-in_err-take-3
 pair-returns-in_err-take-3 g t c =
-    let x = failed c.from-residual-in_err-take-3.result c.from-residual-in_err-take-3.ensures.1 in
+    let x = failed c.from_residual-in_err-take-3.result c.from_residual-in_err-take-3.ensures.1 in
     let p = c.args.self.now in
     let y = pairing_of c.args.pairing in
     let a = pairing_took c.args.pairing p c.advance.new.self c.requires c.advance.ensures in
@@ -276,7 +276,7 @@ pair-returns g t c =
 
 pub part-returns-in_err-right : goal.part-returns-in_err-right
 part-returns-in_err-right g t c =
-    let x = failed c.from-residual-in_err-right.result c.from-residual-in_err-right.ensures.1 in
+    let x = failed c.from_residual-in_err-right.result c.from_residual-in_err-right.ensures.1 in
     let p = c.args.self.now in
     let q = c.item.new.self in
     let l = c.args.sink.now in
@@ -363,7 +363,7 @@ part-returns g t c =
 
 pub right-returns-in_err-found : goal.right-returns-in_err-found
 right-returns-in_err-found g t c =
-    let x = failed c.from-residual.result c.from-residual.ensures.1 in
+    let x = failed c.from_residual.result c.from_residual.ensures.1 in
     let p = c.args.self.now in
     let q = took kind.Equal p c.advance.new.self c.requires c.advance.ensures in
     λ s l f h. expr_exit _ _ l _ x (equal_fails h q c.in_err-found.ensures.gives)

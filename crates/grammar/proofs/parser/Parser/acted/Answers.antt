@@ -14,13 +14,13 @@ use Rattle.grammar.proofs.Steps.{took_leads, fails_after}
 use Rattle.grammar.proofs.parser.Parser.acted.Goals as goal
 
 pub returns-in-Done : goal.returns-in-Done
-returns-in-Done g c = λ s l h. Bodies.done-action (rw c.in-Done.is at h) c.requires.no_dot c.requires.no_colon
+returns-in-Done g c = λ s l h. Bodies.done_action (rw c.in-Done.is at h) c.requires.no_dot c.requires.no_colon
 
 pub returns-in-Bare : goal.returns-in-Bare
-returns-in-Bare g c = λ s l h. c.assigned.ensures s l _ (Bodies.bare-place (rw c.in-Bare.is at h) c.requires.no_dot c.requires.no_colon)
+returns-in-Bare g c = λ s l h. c.assigned.ensures s l _ (Bodies.bare_place (rw c.in-Bare.is at h) c.requires.no_dot c.requires.no_colon)
 
 pub returns-in-Inner : goal.returns-in-Inner
-returns-in-Inner g c = λ s l h. c.assigned-in-Inner.ensures s l _ (Bodies.inner-place (rw c.in-Inner.is at h) c.requires.no_dot c.requires.no_colon)
+returns-in-Inner g c = λ s l h. c.assigned-in-Inner.ensures s l _ (Bodies.inner_place (rw c.in-Inner.is at h) c.requires.no_dot c.requires.no_colon)
 
 pub returns-in-Plain : goal.returns-in-Plain
-returns-in-Plain g c = λ s l h. Bodies.plain-fails (rw c.in-Plain.is at h) c.requires.no_dot c.requires.no_colon c.place.ensures
+returns-in-Plain g c = λ s l h. Bodies.plain_fails (rw c.in-Plain.is at h) c.requires.no_dot c.requires.no_colon c.place.ensures

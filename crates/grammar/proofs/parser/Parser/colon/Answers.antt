@@ -6,7 +6,7 @@ use Rattle.grammar.proofs.parser.Parser.colon.Goals as goal
 
 pub returns-in_err-name : goal.returns-in_err-name
 returns-in_err-name g c =
-    let x = failed c.from-residual.result c.from-residual.ensures.1 in
+    let x = failed c.from_residual.result c.from_residual.ensures.1 in
     let p = c.args.self.now in
     let t = took kind.Colon p c.advance.new.self c.requires c.advance.ensures in
     record {

@@ -18,9 +18,9 @@ pub returns-in_err-typed : goal.returns-in_err-typed
 returns-in_err-typed g c =
     let p = c.args.self.now in
     let b = c.args.fields in
-    let z = err_from_is_err_and c.from-residual.result c.from-residual.ensures.1 in
+    let z = err_from_is_err_and c.from_residual.result c.from_residual.ensures.1 in
     record {
-      gives = λ s l h. rw (z.1, z.2) (Bodies.gather-fails _ b s p l _ h (fails_after (members b) machine.typed (λ α. word kind.Name ∷ machine.member b ∷ α) (λ α. Expected.members-type b α (rest p) c.requires) refl c.in_err-typed.ensures));
+      gives = λ s l h. rw (z.1, z.2) (Bodies.gather_fails _ b s p l _ h (fails_after (members b) machine.typed (λ α. word kind.Name ∷ machine.member b ∷ α) (λ α. Expected.members_type b α (rest p) c.requires) refl c.in_err-typed.ensures));
       falls = rw z.1 tt;
     }
 
@@ -29,9 +29,9 @@ returns-in_err-name g c =
     let p = c.args.self.now in
     let b = c.args.fields in
     let t = c.in_ok-typed.ensures in
-    let z = err_from_is_err_and c.from-residual-in_err-name.result c.from-residual-in_err-name.ensures.1 in
+    let z = err_from_is_err_and c.from_residual-in_err-name.result c.from_residual-in_err-name.ensures.1 in
     record {
-      gives = λ s l h. rw (z.1, z.2) (Bodies.gather-fails _ b s p l _ h (fails_after (members b) (word kind.Name) (λ α. machine.member b ∷ α) (λ α. Expected.members-type b α (rest p) c.requires ∙ t.leads _) t.end_is c.in_err-name.ensures));
+      gives = λ s l h. rw (z.1, z.2) (Bodies.gather_fails _ b s p l _ h (fails_after (members b) (word kind.Name) (λ α. machine.member b ∷ α) (λ α. Expected.members_type b α (rest p) c.requires ∙ t.leads _) t.end_is c.in_err-name.ensures));
       falls = rw z.1 tt;
     }
 
@@ -42,8 +42,8 @@ returns-then-field_ends g c =
     let both = and_parts _ _ (sym c.if-field_ends.ensures) in
     let m = took kind.Semicolon c.take.new.self _ (seen_first kind.Semicolon _ both.0) c.advance.ensures in
     record {
-      gives = λ s l h. Bodies.gather-field (rw both.1 at h) (Bodies.field-read (Bodies.headed _ true c.requires t n) m c.put.ensures);
-      falls = omega (arith, Bodies.type-length t, Bodies.took-shorter n, Bodies.took-shorter m);
+      gives = λ s l h. Bodies.gather_field (rw both.1 at h) (Bodies.field_read (Bodies.headed _ true c.requires t n) m c.put.ensures);
+      falls = omega (arith, Bodies.type_length t, Bodies.took_shorter n, Bodies.took_shorter m);
     }
 
 pub returns-in_err-method : goal.returns-in_err-method
@@ -52,9 +52,9 @@ returns-in_err-method g c =
     let b = c.args.fields in
     let t = c.in_ok-typed.ensures in
     let n = c.in_ok-name.ensures in
-    let z = err_from_is_err_and c.from-residual-in_err-method.result c.from-residual-in_err-method.ensures.1 in
+    let z = err_from_is_err_and c.from_residual-in_err-method.result c.from_residual-in_err-method.ensures.1 in
     record {
-      gives = λ s l h. rw (z.1, z.2) (Bodies.gather-fails _ b s p l _ h (c.in_err-method.ensures.gives p _ b (Bodies.headed _ b c.requires t n) (sym c.if-field_ends.ensures)));
+      gives = λ s l h. rw (z.1, z.2) (Bodies.gather_fails _ b s p l _ h (c.in_err-method.ensures.gives p _ b (Bodies.headed _ b c.requires t n) (sym c.if-field_ends.ensures)));
       falls = rw z.1 tt;
     }
 
@@ -66,6 +66,6 @@ returns g c =
     let n = c.in_ok-name.ensures in
     let m = c.in_ok-method.ensures in
     record {
-      gives = λ s l h. Bodies.gather-method b s p _ l _ _ h (m.gives p _ b (Bodies.headed _ b c.requires t n) (sym c.if-field_ends.ensures));
-      falls = omega (arith, Bodies.type-length t, Bodies.took-shorter n, m.falls);
+      gives = λ s l h. Bodies.gather_method b s p _ l _ _ h (m.gives p _ b (Bodies.headed _ b c.requires t n) (sym c.if-field_ends.ensures));
+      falls = omega (arith, Bodies.type_length t, Bodies.took_shorter n, m.falls);
     }

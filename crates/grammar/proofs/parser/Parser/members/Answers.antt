@@ -14,7 +14,7 @@ use Rattle.grammar.proofs.Steps.{took_leads, fails_after}
 use Rattle.grammar.proofs.parser.Parser.members.Goals as goal
 
 pub loop-self-init : goal.loop-self-init
-loop-self-init g c = Bodies.some-none tree.variable (members true) _ _
+loop-self-init g c = Bodies.some_none tree.variable (members true) _ _
 
 pub returns : goal.returns
-returns g c = Bodies.gather-done c.loop-self.fields _ _ _ _ c.loop-self.invariant (sym c.loop-self-test.ensures)
+returns g c = Bodies.gather_done c.loop-self.fields _ _ _ _ c.loop-self.invariant (sym c.loop-self-test.ensures)

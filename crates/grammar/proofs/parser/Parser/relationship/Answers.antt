@@ -19,9 +19,9 @@ at_inside α = word kind.OpenBrace ∷ members true ∷ word kind.CloseBrace ∷
 pub returns-in_err-name : goal.returns-in_err-name
 returns-in_err-name g c =
     let w = took kind.Relationship c.args.self.now _ c.requires c.advance.ensures in
-    let z = err_from_is_err_and c.from-residual.result c.from-residual.ensures.1 in
+    let z = err_from_is_err_and c.from_residual.result c.from_residual.ensures.1 in
     record {
-      gives = rw (z.1, z.2) (Bodies.fails-one (Bodies.fails-from (λ α. decls ∷ α) (λ α. word kind.Name ∷ word kind.Extends ∷ word kind.Name ∷ α) (λ α. word kind.OpenParen ∷ word kind.Name ∷ word kind.Comma ∷ word kind.Name ∷ word kind.CloseParen ∷ at_inside α) (Bodies.relationship-lead w) w.end-is c.in_err-name.ensures));
+      gives = rw (z.1, z.2) (Bodies.fails_one (Bodies.fails_from (λ α. decls ∷ α) (λ α. word kind.Name ∷ word kind.Extends ∷ word kind.Name ∷ α) (λ α. word kind.OpenParen ∷ word kind.Name ∷ word kind.Comma ∷ word kind.Name ∷ word kind.CloseParen ∷ at_inside α) (Bodies.relationship_lead w) w.end_is c.in_err-name.ensures));
       falls = rw z.1 tt;
     }
 
@@ -29,9 +29,9 @@ pub returns-in_err-first : goal.returns-in_err-first
 returns-in_err-first g c =
     let w = took kind.Relationship c.args.self.now _ c.requires c.advance.ensures in
     let h = c.in_ok-name.ensures in
-    let z = err_from_is_err_and c.from-residual-in_err-first.result c.from-residual-in_err-first.ensures.1 in
+    let z = err_from_is_err_and c.from_residual-in_err-first.result c.from_residual-in_err-first.ensures.1 in
     record {
-      gives = rw (z.1, z.2) (Bodies.fails-one (Bodies.fails-from (λ α. decls ∷ α) (λ α. word kind.OpenParen ∷ word kind.Name ∷ word kind.Comma ∷ word kind.Name ∷ word kind.CloseParen ∷ α) at_inside (λ α. Bodies.relationship-lead w α ∙ h.leads _) (h.end_is ∙ w.end-is) c.in_err-first.ensures));
+      gives = rw (z.1, z.2) (Bodies.fails_one (Bodies.fails_from (λ α. decls ∷ α) (λ α. word kind.OpenParen ∷ word kind.Name ∷ word kind.Comma ∷ word kind.Name ∷ word kind.CloseParen ∷ α) at_inside (λ α. Bodies.relationship_lead w α ∙ h.leads _) (h.end_is ∙ w.end_is) c.in_err-first.ensures));
       falls = rw z.1 tt;
     }
 
@@ -39,5 +39,5 @@ pub returns : goal.returns
 returns g c =
     let p = c.args.self.now in
     let w = took kind.Relationship p c.advance.new.self c.requires c.advance.ensures in
-    let tree_is = Bodies.relationship-gives g.S.Sink.after c.inside.result p _ _ _ _ c.args.sink.now _ _ _ _ _ _ _ w c.in_ok-name.ensures c.in_ok-first.ensures c.put.ensures c.inside.ensures in
-    record { gives = tree_is; falls = Bodies.decl-falls g.S.Sink.after c.inside.result p c.inside.new.self c.args.sink.now c.inside.new.sink decls (λ α. decls ∷ α) tree_is }
+    let tree_is = Bodies.relationship_gives g.S.Sink.after c.inside.result p _ _ _ _ c.args.sink.now _ _ _ _ _ _ _ w c.in_ok-name.ensures c.in_ok-first.ensures c.put.ensures c.inside.ensures in
+    record { gives = tree_is; falls = Bodies.decl_falls g.S.Sink.after c.inside.result p c.inside.new.self c.args.sink.now c.inside.new.sink decls (λ α. decls ∷ α) tree_is }

@@ -5,4 +5,4 @@ pub unreachable-requires : goal.unreachable-requires
 unreachable-requires c = never_refused c.in-Err.field-0 c.in-Err.ensures
 
 pub invariant_of-result : goal.invariant_of-result
-invariant_of-result c = (∣ record { text = smallest; scratch = 2; accepted = c.in-Ok.ensures } ∣₁, tt)
+invariant_of-result c = record { accepted = ∣ record { text = smallest; scratch = 2; accepted = c.in-Ok.ensures } ∣₁ }

@@ -4,7 +4,7 @@ use Rattle.tables.specs.Listed.{listed}
 use Rattle.tables.proofs.table.Table.new.Goals as goal
 
 pub invariant_of-result : goal.invariant_of-result
-invariant_of-result g c = (length-replicate g.row.N c.args.fill, (omega arith, tt))
+invariant_of-result g c = record { whole = length-replicate g.row.N c.args.fill; few = omega arith }
 
 pub returns : goal.returns
 unfolding listed
