@@ -1,8 +1,8 @@
 -- The even store's places as cells.
-use Rattle.std.specs.Prelude.{◌≡◌, ℕ, ◌+◌, ◌*◌, ◌<◌, ◌≤◌, List, [], ◌∷◌, ◌++◌, map, length, get_or, take, set, Some, sum_by, slice_index_or, slice_set, refl}
+use Rattle.std.specs.Prelude.{◌≡◌, ℕ, ◌+◌, ◌*◌, ◌<◌, ◌≤◌, List, [], ◌∷◌, ◌++◌, map, length, get_or, take, set, Some, sum_by, slice_index_or, slice_set, refl, All}
 use Rattle.std.proofs.Common.{sym, ap, ◌∙◌, arith, length-take}
-use Rattle.std.specs.List.{slice_get, AllByRecursion as All}
-use Rattle.std.proofs.ByRecursion.{All-map}
+use Rattle.std.specs.List.{slice_get}
+use Rattle.std.proofs.lemmas.List.Elements.{All-map}
 use Rattle.std.proofs.lemmas.List.{take_more_set, map_push, map-set}
 use Rattle.std.proofs.lemmas.List.Sums.{sum_by-cons}
 use Rattle.even_store.specs.declared.even.Place.{Place}
@@ -34,8 +34,7 @@ unfolding slots_of even_model
 used_slots s = let n = used_cells s in eights (even_model s).cells ∙ ap (λ k. k * 8) n
 
 all_few : (ps : List Place) → All (λ p. length (placed p).fields ≤ 8) ps
-all_few [] = tt
-all_few (p ∷ ps) = (let e = count_of p in let f = p.few in omega arith, all_few ps)
+all_few ps k d h = let p = slice_index_or ps k d in let e = count_of p in let f = p.few in omega arith
 
 pub even_lawful : (s : EvenStore) → Lawful (even_model s)
 unfolding even_model

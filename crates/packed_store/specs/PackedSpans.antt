@@ -1,10 +1,10 @@
 -- The packed store's spans as cells.
-use Rattle.std.specs.Prelude.{◌≡◌, ℕ, zero, suc, ◌+◌, ◌-◌, ◌<◌, ◌≤◌, min, List, [], ◌∷◌, ◌++◌, length, get_or, take, drop, replicate, Some, Ok, sum_by, slice_index_or, slice_set, refl}
+use Rattle.std.specs.Prelude.{◌≡◌, ℕ, zero, suc, ◌+◌, ◌-◌, ◌<◌, ◌≤◌, min, List, [], ◌∷◌, ◌++◌, length, get_or, take, drop, replicate, Some, Ok, sum_by, slice_index_or, slice_set, refl, All}
 use Rattle.std.proofs.Math.Path.{sym, ap}
 use Rattle.std.proofs.Common.{◌∙◌, inl, inr, zero-add, arith, length-drop}
 use Rattle.std.proofs.Math.ListN.{length-take}
-use Rattle.std.specs.List.{slice_get, AllByRecursion as All}
-use Rattle.std.proofs.ByRecursion.{All-from_get_or}
+use Rattle.std.specs.List.{slice_get}
+use Rattle.std.proofs.lemmas.List.Elements.{All-from_get_or}
 use Rattle.std.proofs.lemmas.List.{drop-drop, take-set-le, drop-set-lt, drop-set-add, take-take, get_or-take, get_or-drop, get_or-set_same, get_or-set_other, take_more_set, take-set, take-replicate, drop-replicate}
 use Rattle.std.proofs.lemmas.Bool.{cases_eq}
 use Rattle.std.proofs.lemmas.List.Sums.{sum_by-cons, sum_by_more, sum_by_push, sum_by-take-le}
@@ -77,8 +77,8 @@ laid_sum [] vs a h = refl
 laid_sum (s ∷ ss) vs a h =
     let t = total-cons s ss in
     let n : length (take s.count vs) ≡ s.count = simp length-take (omega arith) in
-    let r = laid_sum ss (drop s.count vs) a.1 (simp length-drop (omega arith)) in
-    let m : min (length (take s.count vs)) 8 ≡ s.count = rw n (let f = a.0 in omega arith) in
+    let r = laid_sum ss (drop s.count vs) (λ k d l. a (suc k) d (omega arith)) (simp length-drop (omega arith)) in
+    let m : min (length (take s.count vs)) 8 ≡ s.count = rw n (let f = a 0 s (omega arith) in omega arith) in
     let x : StoredCell = record { head = s.head; fields = take s.count vs } in
     sum_by-cons (λ (c : StoredCell). min (length c.fields) 8) x (laid ss (drop s.count vs)) ∙ omega arith
 
@@ -145,8 +145,9 @@ module _ (s : PackedStore) where
 
   few_fields : (ss : List Span) (vs : List Value) → All (λ (x : Span). x.count ≤ 8) ss → All (λ (c : StoredCell). length c.fields ≤ 8) (laid ss vs)
   unfolding laid
-  few_fields [] vs a = tt
-  few_fields (x ∷ ss) vs a = (let k = a.0 in simp length-take (omega arith), few_fields ss (drop x.count vs) a.1)
+  few_fields [] vs a k d h = absurd (omega arith)
+  few_fields (x ∷ ss) vs a zero d h = let k = a 0 x (omega arith) in simp length-take (omega arith)
+  few_fields (x ∷ ss) vs a (suc k) d h = few_fields ss (drop x.count vs) (λ j e l. a (suc j) e (omega arith)) k d (omega arith)
 
   pub packed_lawful : Lawful (packed_model s)
   unfolding packed_model

@@ -1,6 +1,5 @@
 -- What every store keeps to.
-use Rattle.std.specs.Prelude.{◌≡◌, ℕ, ◌<◌, ◌≤◌, length}
-use Rattle.std.specs.List.{AllByRecursion as All}
+use Rattle.std.specs.Prelude.{◌≡◌, ℕ, ◌<◌, ◌≤◌, length, All}
 use Rattle.store.specs.Model.{Model, slots_of}
 
 -- at most 128 cells and 1,024 slots; a cell of n fields, at most 8, is charged n to 8 slots, and above 8 as for 8;

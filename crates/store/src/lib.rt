@@ -1,4 +1,6 @@
 // Stores of cells: what a store is.
+#![tactic(auto)]
+
 ghost use Rattle.std.specs.Prelude.{◌≡◌, length};
 ghost use Rattle.store.specs.Laws.{Lawful};
 ghost use Rattle.store.specs.Model.{Model, after_make, after_put, cleared, field_at, fields_at, head_at, make_answer, put_answer, slots_of};

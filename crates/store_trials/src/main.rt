@@ -1,4 +1,6 @@
 // Random calls of each store, compared with a plain list of cells; and each store filled to its limits.
+#![tactic(auto)]
+
 mod plain;
 mod random;
 mod trial;
