@@ -1,5 +1,7 @@
 // Measures how fast a text is checked: `check_bench run < model.relj`. Without that word it prints how it is run, and
 // measures nothing.
+#![tactic(auto)]
+
 use program::check::check;
 use program::program::Program;
 use std::env;

@@ -2,6 +2,8 @@
 // prints for each a line: the refusal's number and place, or `accepted` and how many classes, relationships, fields,
 // methods and nodes there are. It tells if the scratch is not all zero afterwards, or a refused text changed the place.
 // tools/check_cases.py writes the lines and what is expected of them.
+#![tactic(auto)]
+
 use anyhow::anyhow;
 use program::check::check;
 use program::code::Counts;

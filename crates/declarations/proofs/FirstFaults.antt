@@ -1,20 +1,18 @@
 -- The answer of a check is the first fault.
 use Rattle.std.proofs.Common.{◌≡◌, ℕ, ◌<◌, ◌≤◌, min, Bool, true, false, not, ◌⊎◌, List, length, Some, None, Option, sym, refl, subst, inl, inr, le_refl, arith}
 use Rattle.std.proofs.lemmas.Bool.{both_ways, cases_lt}
-use Rattle.values.specs.declared.types.Lineage.{Lineage}
 use Rattle.values.specs.declared.types.Lineage.TheVariants.{Class, Relationship}
 use Rattle.outline.specs.Contents.{Contents}
 use Rattle.tables.specs.Below.{lesser, least_below}
 use Rattle.tables.proofs.Found.{least_none, least_among, least_lowest}
 use Rattle.declarations.specs.declared.refusal.Misdeclared.{Misdeclared}
 use Rattle.declarations.specs.declared.refusal.Misdeclared.TheVariants as refusal
-use Rattle.declarations.specs.Rows.{rows_of}
 use Rattle.declarations.specs.Resolved.{Declared}
 use Rattle.declarations.specs.Naming.{fault_if, name_taken_place, first_taken, parent_missing_place, end_missing_place, field_type_missing_place, result_type_missing_place, variable_type_missing_place, first_missing}
 use Rattle.declarations.specs.Clashes.{field_clashes_place, method_twice_place, variable_twice_place, first_clash}
 use Rattle.declarations.specs.Misfits.{end_misfit_place, first_end_misfit, override_misfit_place, first_override_misfit}
 use Rattle.declarations.specs.Counts.{main_stands, main_missing_place, too_many_fields_place, first_too_many}
-use Rattle.declarations.specs.Faults.{Fault, name_taken, parent_missing, end_missing, field_type_missing, result_type_missing, variable_type_missing, field_clashes, method_twice, variable_twice, end_misfit, override_misfit, main_missing, too_many_fields, Faultless, FirstFault, Judged, number_of, place_of, refused_at, misdeclared_of}
+use Rattle.declarations.specs.Faults.{Fault, name_taken, parent_missing, end_missing, field_type_missing, result_type_missing, variable_type_missing, field_clashes, method_twice, variable_twice, end_misfit, override_misfit, main_missing, too_many_fields, Judged, number_of, place_of, refused_at, misdeclared_of}
 
 -- there is a place, and it is at most q
 abbrev Low : Option ℕ → ℕ → Type 0

@@ -1,5 +1,5 @@
 -- A line grows by the parents of its declared rows.
-use Rattle.std.proofs.Common.{◌≡◌, ℕ, ◌+◌, ◌<◌, ◌≤◌, Bool, true, false, cond, ◌&&◌, leb, List, [], ◌∷◌, ◌++◌, length, Some, None, Ok, Err, Option, Result, sym, refl, ap, ◌∙◌, add-one, arith, leb-true, MatchResult}
+use Rattle.std.proofs.Common.{◌≡◌, ℕ, ◌+◌, ◌<◌, ◌≤◌, Bool, true, false, cond, ◌&&◌, leb, List, [], ◌∷◌, ◌++◌, length, Some, None, Ok, Err, Option, Result, refl, ap, ◌∙◌, add-one, arith, leb-true, MatchResult}
 use Rattle.descent.specs.declared.line.RowRefusal.{RowRefusal}
 use Rattle.descent.specs.Rows.{Added, NotAdded, no_parent, full}
 use Rattle.values.specs.declared.types.Lineage.{Lineage}

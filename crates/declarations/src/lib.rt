@@ -1,4 +1,6 @@
 // What a text declares, with its names resolved, and the faults of its declarations.
+#![tactic(auto)]
+
 mod clashes;
 mod counts;
 pub mod declarations;

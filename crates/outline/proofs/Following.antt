@@ -1,23 +1,21 @@
 -- What the builder holds after a program's events.
-use Rattle.std.proofs.Common.{◌≡◌, ℕ, ◌+◌, ◌<◌, ◌≤◌, min, Bool, true, false, cond, ltb, List, [], ◌∷◌, reverse, length, Some, None, Option, sym, refl, ap, ◌∙◌, subst, arith, ltb-true}
+use Rattle.std.proofs.Common.{◌≡◌, ℕ, ◌+◌, ◌≤◌, min, Bool, true, false, ltb, List, [], ◌∷◌, reverse, length, None, Option, sym, refl, ap, ◌∙◌, subst, arith}
 use Rattle.std.proofs.lemmas.List.{length-reverse}
 use Rattle.std.proofs.lemmas.Bool.{both_ways}
 use Rattle.std.proofs.lemmas.Bool.Decides.{nat_tests}
 use Rattle.grammar.specs.declared.event.Event.{Event}
 use Rattle.grammar.specs.Events.{events, fed}
 use Rattle.grammar.specs.Trees.{Program}
-use Rattle.outline.specs.declared.builder.Tally.{Tally}
 use Rattle.outline.specs.declared.builder.Builder.{Builder}
 use Rattle.outline.specs.Building.{built}
 use Rattle.outline.specs.Built.{Empty, limit_of}
 use Rattle.outline.specs.Contents.{contents}
 use Rattle.outline.specs.Drafts.{Draft, draft, taken}
-use Rattle.outline.specs.Layout.{Layout, nothing, laid, next, contents_of}
+use Rattle.outline.specs.Layout.{nothing, laid, next, contents_of}
 use Rattle.outline.specs.Limits.{height, crowd, passed, limit_passed}
 use Rattle.outline.proofs.Heights.{cap}
 use Rattle.outline.proofs.Laying.{program_laid}
-use Rattle.outline.proofs.Shown.{Shows}
-use Rattle.outline.proofs.Tracking.{Same, Counts, Small, Fine, Tracks, tracks_event}
+use Rattle.outline.proofs.Tracking.{Tracks, tracks_event}
 
 tracks_events : (es : List Event) (b : Builder) (d : Draft) → Tracks b d → Tracks (fed built b es) (fed taken d es)
 tracks_events [] b d t = t

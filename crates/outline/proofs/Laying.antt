@@ -1,8 +1,8 @@
 -- The events of a tree lay it out.
-use Rattle.std.proofs.Common.{◌≡◌, ℕ, suc, ◌+◌, max, Bool, true, false, cond, List, [], ◌∷◌, ◌++◌, sym, refl, ap, ◌∙◌, add-zero, arith}
+use Rattle.std.proofs.Common.{◌≡◌, ℕ, suc, ◌+◌, max, true, false, cond, List, [], ◌∷◌, ◌++◌, sym, refl, ap, ◌∙◌, add-zero, arith}
 use Rattle.grammar.specs.declared.event.Event.{Event}
 use Rattle.grammar.specs.declared.event.Event.TheVariants as event
-use Rattle.grammar.specs.Events.{events, fed, first_item, first_atom, first_action, type_of}
+use Rattle.grammar.specs.Events.{events, fed, first_item, first_atom, type_of}
 use Rattle.grammar.proofs.Items.{fed_append}
 use Rattle.grammar.specs.Trees.{Sort, expr, item, atom, creation, suffix, place, action, stmt, variable, method, decl, many, Tree, none, more, name, literal, paren, made, new, pair, member, call, instances, end, chain, bare, inside, alone, equal, assign, assigns, calls, creates, act, branch, declares, method_of, class, relationship}
 use Rattle.grammar.specs.Trees as tree
@@ -11,7 +11,7 @@ use Rattle.outline.specs.declared.entry.Shape.TheVariants as shape
 use Rattle.outline.specs.Layout.{Layout, laid, add_class, add_relationship, add_declared, add_method, add_node, add_block, next, newest}
 use Rattle.outline.specs.Limits.{height, crowd, how_many}
 use Rattle.outline.specs.Drafts.{Draft, draft, taken, held, to_variable, to_member, heighten, parted, settled_in, above}
-use Rattle.outline.proofs.Heights.{cap, cap_above, cap_max, cap_both, cap_settled}
+use Rattle.outline.proofs.Heights.{cap, cap_above, cap_both, cap_settled}
 
 -- the events es lead from d to e
 pub record Leads (d : Draft) (es : List Event) (e : Draft) : Type 0 where

@@ -6,16 +6,15 @@ use Rattle.grammar.specs.declared.event.TypeWord.{TypeWord}
 use Rattle.grammar.specs.declared.event.Event.{Event}
 use Rattle.grammar.specs.declared.event.Event.TheVariants as event
 use Rattle.tables.specs.declared.table.Table.{Table}
-use Rattle.tables.specs.Listed.{listed, pushed, shortened, newest}
-use Rattle.values.specs.declared.types.CellRow.{CellRow}
+use Rattle.tables.specs.Listed.{listed, shortened, newest}
 use Rattle.outline.specs.declared.entry.Shape.{Shape}
 use Rattle.outline.specs.declared.entry.Shape.TheVariants as shape
 use Rattle.outline.specs.declared.entry.Open.{Open}
 use Rattle.outline.specs.declared.builder.Tally.{Tally}
 use Rattle.outline.specs.declared.builder.Builder.{Builder}
-use Rattle.outline.specs.Layout.{Layout, node, block, row_entry, class_row, relationship_row, field_entry, variable_entry, method_entry, add_class, add_relationship, add_declared, add_method, add_node, add_block, next}
+use Rattle.outline.specs.Layout.{Layout, node, block, class_row, relationship_row, field_entry, variable_entry, method_entry, add_class, add_relationship, add_declared, add_method, add_node, add_block, next}
 use Rattle.outline.specs.Drafts.{Draft, draft, taken, leaf, unary, binary, held, to_variable, to_member, heighten, parted, above, top, below, on_top, settled_in, with_opened, assigned, statement, branching, joining, declaring, in_layout, value_shape, doing_shape, side_shape}
-use Rattle.outline.specs.Building.{raised, counting, opening, closing, top_of, or_nothing, next_node, last_method, counted, with_node, node_added, block_added, leaf_added, unary_added, binary_added, bracketed, variable_targeted, member_targeted, assigning, assigned_in, settling, statement_added, branch_added, parting, joined_in, replaced, class_added, relationship_added, field_added, local_added, method_added, declared_in, with_height, settled_at, built}
+use Rattle.outline.specs.Building.{raised, counting, opening, closing, top_of, or_nothing, next_node, last_method, counted, with_node, node_added, block_added, leaf_added, unary_added, binary_added, variable_targeted, assigning, assigned_in, settling, statement_added, branch_added, joined_in, replaced, class_added, relationship_added, field_added, local_added, method_added, declared_in, with_height, settled_at, built}
 use Rattle.outline.proofs.Shown.{Shows, show_length, show_push, show_drop, show_drop_none, show_newest, show_none}
 
 -- the tables hold the layout, and what is open is o

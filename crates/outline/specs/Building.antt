@@ -1,6 +1,5 @@
 -- What each event does to the builder.
-use Rattle.std.specs.Prelude.{ℕ, ◌+◌, ◌-◌, max, Bool, true, false, cond, List, length, Some, None, Option, nat_le}
-use Rattle.values.specs.declared.types.CellRow.{CellRow}
+use Rattle.std.specs.Prelude.{ℕ, ◌+◌, ◌-◌, max, Bool, true, false, cond, length, Some, None, Option, nat_le}
 use Rattle.grammar.specs.declared.event.TypeWord.{TypeWord}
 use Rattle.grammar.specs.declared.event.Event.{Event}
 use Rattle.grammar.specs.declared.event.Event.TheVariants as event

@@ -1,5 +1,5 @@
 -- A program's tables while its events come in.
-use Rattle.std.specs.Prelude.{ℕ, ◌+◌, min, max, Bool, true, false, cond, List, [], ◌∷◌, length}
+use Rattle.std.specs.Prelude.{ℕ, ◌+◌, min, max, true, false, cond, List, [], ◌∷◌}
 use Rattle.grammar.specs.declared.event.Literal.{Literal}
 use Rattle.grammar.specs.declared.event.Literal.TheVariants as value
 use Rattle.grammar.specs.declared.event.Pairing.{Pairing}

@@ -4,7 +4,6 @@ use Rattle.values.specs.declared.types.CellRow.{CellRow}
 use Rattle.values.specs.declared.types.Lineage.TheVariants as lineage
 use Rattle.grammar.specs.declared.event.TypeWord.{TypeWord}
 use Rattle.grammar.specs.Events.{first_atom, first_item, first_action, type_of}
-use Rattle.grammar.specs.Events as events
 use Rattle.grammar.specs.Trees.{Literal, Pairing, End, Sort, place, Tree, Program, none, more, name, literal, paren, made, new, pair, member, call, instances, end, chain, bare, inside, alone, equal, assign, assigns, calls, creates, act, branch, boolean, set_of, row, declares, method_of, class, relationship}
 use Rattle.grammar.specs.Trees as tree
 use Rattle.outline.specs.declared.entry.Row.{Row}

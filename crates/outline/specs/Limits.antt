@@ -1,7 +1,6 @@
 -- How large a program may be.
 use Rattle.std.specs.Prelude.{ℕ, ◌+◌, max, Bool, cond, length, Some, None, Option, nat_lt}
 use Rattle.grammar.specs.Trees.{Sort, many, variable, Tree, Program, none, more, name, literal, paren, made, new, pair, member, call, instances, end, chain, bare, inside, alone, equal, assign, assigns, calls, creates, act, branch, boolean, set_of, row, declares, method_of, class, relationship}
-use Rattle.outline.specs.Contents.{Contents}
 use Rattle.outline.specs.Layout.{contents_of}
 
 -- The height of an expression: a leaf has 1, any other node is one above its highest part, and so is a pair of brackets

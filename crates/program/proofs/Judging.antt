@@ -3,7 +3,7 @@ use Rattle.std.proofs.Common.{◌≡◌, ℕ, ◌<◌, ◌≤◌, min, Bool, tru
 use Rattle.grammar.specs.Trees.{Program}
 use Rattle.outline.specs.declared.contents.Outline.{Outline}
 use Rattle.outline.specs.declared.outlining.Unlisted.TheVariants.{Limit}
-use Rattle.outline.specs.Contents.{Contents, contents}
+use Rattle.outline.specs.Contents.{contents}
 use Rattle.outline.specs.Layout.{contents_of}
 use Rattle.outline.specs.Limits.{limit_passed}
 use Rattle.outline.specs.Outlined.{Listed, TooLarge}

@@ -5,9 +5,8 @@ use Rattle.words.specs.Names.{name_at}
 use Rattle.words.specs.Nesting.{open_after, too_deep, deepest}
 use Rattle.words.specs.Surveys.{first_fault, surveyed, extent}
 use Rattle.words.specs.declared.refusal.Unreadable.{Unreadable}
-use Rattle.grammar.specs.declared.judge.TextRefusal.{TextRefusal}
 use Rattle.grammar.specs.declared.judge.TextRefusal.TheVariants.{Unreadable as Unread, Unexpected}
-use Rattle.grammar.specs.Exact.{Begins, marked, next, Refused, RefusedAt, Parsed}
+use Rattle.grammar.specs.Exact.{Begins, marked, next}
 use Rattle.grammar.specs.Judged.{NoProgram}
 use Rattle.grammar.specs.Trees.{Mark, Program, spell, none, more, name, boolean, chain, alone, method_of, class}
 use Rattle.outline.specs.declared.outlining.Unlisted.TheVariants.{Text, Limit}

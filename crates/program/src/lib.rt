@@ -1,4 +1,6 @@
 // A text is judged, and becomes a program.
+#![tactic(auto)]
+
 mod assembly;
 pub mod check;
 pub mod code;

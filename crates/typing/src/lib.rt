@@ -1,4 +1,6 @@
 // The type of each node of a program, and what the node does.
+#![tactic(auto)]
+
 mod coding;
 mod lookup;
 pub mod pass;

@@ -1,4 +1,4 @@
-use Rattle.std.proofs.Common.{◌≡◌, ◌<◌, ◌≤◌, ◌∷◌, length, sym, ap, ◌∙◌, arith}
+use Rattle.std.proofs.Common.{arith}
 use Rattle.outline.specs.Contents.{contents}
 use Rattle.tables.specs.Below.{tabulated}
 use Rattle.tables.proofs.Laws.{few_listed}

@@ -1,7 +1,7 @@
-use Rattle.std.proofs.Common.{◌≡◌, ◌<◌, sym, ap, ◌∙◌, arith, rules}
+use Rattle.std.proofs.Common.{◌<◌, sym, arith, rules}
 use Rattle.tables.proofs.Laws.{few_listed}
 use Rattle.tables.proofs.Found.{first_passes}
-use Rattle.declarations.specs.Rows.{row_among, numbered}
+use Rattle.declarations.specs.Rows.{row_among}
 use Rattle.declarations.proofs.rows.row_among.Goals as goal
 
 below : (c : goal.In-Some) → c.in-Some.i < 31

@@ -1,4 +1,3 @@
-use Rattle.std.proofs.Common.{rules}
 use Rattle.declarations.proofs.rows.type_named.Goals as goal
 
 pub returns-in-Some : goal.returns-in-Some

@@ -1,4 +1,4 @@
-use Rattle.std.proofs.Common.{◌≡◌, ℕ, ◌<◌, length, get_or}
+use Rattle.std.proofs.Common.{◌≡◌, ℕ, ◌<◌, get_or}
 use Rattle.program.proofs.check.clear.Given as goal
 
 abbrev pub invariant-loop-entry : goal.invariant-loop-entry

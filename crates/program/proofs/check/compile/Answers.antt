@@ -1,5 +1,4 @@
-use Rattle.std.proofs.Common.{◌≡◌, ℕ, ◌<◌, ◌≤◌, min, List, length, Some, None, Err, sym, ap, ◌∙◌, arith}
-use Rattle.grammar.specs.declared.judge.TextRefusal.{TextRefusal}
+use Rattle.std.proofs.Common.{◌≡◌, ℕ, ◌≤◌, min, List, length, Err, ap, ◌∙◌, arith}
 use Rattle.outline.specs.declared.outlining.Unlisted.{Unlisted}
 use Rattle.outline.specs.declared.outlining.Unlisted.TheVariants.{Text, Limit}
 use Rattle.outline.specs.Contents.{contents}

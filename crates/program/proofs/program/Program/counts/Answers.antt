@@ -1,4 +1,4 @@
-use Rattle.std.proofs.Common.{◌-◌, length, ap, ◌∙◌}
+use Rattle.std.proofs.Common.{◌-◌, ap}
 use Rattle.values.specs.Lines.{ancestry}
 use Rattle.program.specs.Model.{model}
 use Rattle.program.proofs.program.Program.counts.Goals as goal
