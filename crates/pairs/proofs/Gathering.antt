@@ -1,11 +1,11 @@
 -- The cells, or the instances, of the rows that leave a cell, gathered row by row.
-use Rattle.std.proofs.Common.{◌≡◌, ℕ, zero, suc, ◌+◌, ◌<◌, ◌≤◌, Bool, true, false, cond, not, ◌&&◌, ◌||◌, eqb, ltb, leb, ◌⊎◌, List, [], ◌∷◌, ◌++◌, length, get_or, is_some, Some, None, Option, sym, refl, ap, ◌∙◌, subst, ap₂, inl, inr, arith}
+use Rattle.std.proofs.Common.{◌≡◌, ℕ, ◌≤◌, Bool, true, false, cond, ◌&&◌, ◌||◌, eqb, ltb, List, [], ◌∷◌, ◌++◌, is_some, Some, None, Option, sym, refl, ap, ◌∙◌, ap₂, inl, inr, arith}
 use Rattle.std.proofs.lemmas.Bool.{and_parts, and_from, eqb-true, eq-eqb, or_cases, or_left, or_right, both_ways}
 use Rattle.std.proofs.lemmas.Bool.Decides.{nat_tests as comparisons}
 use Rattle.cells.specs.Members.{has, Words}
 use Rattle.cells.specs.declared.CellSet.{CellSet}
 use Rattle.pairs.specs.declared.row.Row.{Row}
-use Rattle.pairs.specs.Rows.{alike, leads, told, in_force, apart, Small}
+use Rattle.pairs.specs.Rows.{leads, told, in_force, apart, Small}
 use Rattle.pairs.specs.declared.row.Asked.{Asked}
 use Rattle.pairs.specs.declared.row.Asked.TheVariants.{To, Instance}
 use Rattle.pairs.specs.Gathering.{tells, Gathered}

@@ -1,8 +1,8 @@
 -- The sets that a table's questions answer are those of the look-up alone: two tables with the same look-up give the same sets.
-use Rattle.std.proofs.Common.{◌≡◌, ℕ, zero, suc, ◌<◌, ◌≤◌, Bool, true, false, ◌||◌, eqb, List, is_some, Some, None, Decides, Option, sym, refl, ap, ◌∙◌, arith}
+use Rattle.std.proofs.Common.{◌≡◌, ℕ, ◌<◌, true, false, List, is_some, Some, None, Decides, Option, refl, ap, arith}
 use Rattle.std.proofs.lemmas.Bool.{both_ways, eqb-true, eq-eqb}
 use Rattle.std.proofs.lemmas.Bool.Decides.{same_from_decides, Decides-below_or}
-use Rattle.cells.specs.Members.{has, gathered}
+use Rattle.cells.specs.Members.{has}
 use Rattle.cells.specs.declared.CellSet.{CellSet}
 use Rattle.cells.proofs.Laws.{is_gathered}
 use Rattle.pairs.specs.declared.row.Row.{Row}

@@ -1,5 +1,5 @@
 -- What a pair table's calls do to its rows, and what its questions answer.
-use Rattle.std.specs.Prelude.{◌≡◌, ℕ, ◌+◌, ◌<◌, ◌≤◌, Bool, true, false, cond, List, [], ◌∷◌, length, is_some, Some, None, Ok, Err, Option, Result, nat_le}
+use Rattle.std.specs.Prelude.{◌≡◌, ℕ, ◌+◌, ◌<◌, true, cond, List, length, is_some, Some, None, Ok, Err, Option, Result, nat_le}
 use Rattle.cells.specs.Members.{has, Words}
 use Rattle.cells.specs.declared.CellSet.{CellSet}
 use Rattle.pairs.specs.declared.row.Row.{Row}

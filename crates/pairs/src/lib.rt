@@ -1,4 +1,6 @@
 // Pair tables: which pairs of cells stand in which relationship, each with its instance.
+#![tactic(auto)]
+
 pub mod client;
 pub mod row;
 pub mod table;

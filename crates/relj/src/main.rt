@@ -1,4 +1,6 @@
 // Reads a model text from standard input, and prints one line about it.
+#![tactic(auto)]
+
 use grammar::judge::judge;
 use grammar::sink::Nowhere;
 use std::io::Read;

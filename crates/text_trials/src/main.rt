@@ -1,6 +1,8 @@
 // Judges the text that each line of standard input spells, and prints for each a line: the refusal's number and place,
 // or `ok`, how many words there are and how deep the brackets go; and after a stroke what the grammar says of a text
 // that can be read. tools/text_cases.py writes the lines and what is expected of them.
+#![tactic(auto)]
+
 ghost use Rattle.std.specs.Prelude.{◌≡◌, IfOk, string_bytes};
 ghost use Rattle.text_trials.specs.Verdicts.{line_of};
 ghost use Rattle.words.specs.Surveys.{surveyed};

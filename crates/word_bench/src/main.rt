@@ -1,4 +1,6 @@
 // Measures how fast a text is surveyed: `word_bench run`. Without that word it prints how it is run, and measures nothing.
+#![tactic(auto)]
+
 ghost use Rattle.std.specs.Prelude.{◌≡◌, IfOk, vec_len};
 
 use anyhow::anyhow;

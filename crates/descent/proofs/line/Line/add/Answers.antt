@@ -24,10 +24,10 @@ invariant_of-self c =
       plain = get_or-set_other l.parents r 0 p 0 (omega arith) ∙ l.plain;
       smaller =
           λ a h k.
-              elim (cases_eq a r) [
-                | inl e ↦ let v = get_or-set_same l.parents r p 0 here in rw e (omega arith)
-                | inr ne ↦ let v = get_or-set_other l.parents r a p 0 ne in let s = l.smaller a h (omega arith) in omega arith
-              ];
+          elim (cases_eq a r) [
+            | inl e ↦ let v = get_or-set_same l.parents r p 0 here in rw e (omega arith)
+            | inr ne ↦ let v = get_or-set_other l.parents r a p 0 ne in let s = l.smaller a h (omega arith) in omega arith
+          ];
     }
 
 pub returns : goal.returns
