@@ -25,11 +25,11 @@ escaped (h ∷ []) = None
 escaped (h ∷ l ∷ s) = escape (hex_value h) (hex_value l)
 
 -- the first byte that is spelled: by an escape, or by itself
-abbrev pub first_of : List ℕ → Option Spelled
-first_of [] = None
-first_of (b ∷ s) = cond (b == 92) (escaped s) (Some (spells b 1))
+abbrev pub first_spelled : List ℕ → Option Spelled
+first_spelled [] = None
+first_spelled (b ∷ s) = cond (b == 92) (escaped s) (Some (spells b 1))
 
 -- a text, a piece, and the text once the bytes that the piece spells are added to it, the first one first
 pub data Adds : List ℕ → List ℕ → List ℕ → Type 0 where
   none : {text : List ℕ} → Adds text [] text
-  one : {text piece after : List ℕ} {s : Spelled} → first_of piece ≡ Some s → Adds (text ++ s.byte ∷ []) (drop s.length piece) after → Adds text piece after
+  one : {text piece after : List ℕ} {s : Spelled} → first_spelled piece ≡ Some s → Adds (text ++ s.byte ∷ []) (drop s.length piece) after → Adds text piece after

@@ -1,7 +1,7 @@
 // Texts spelled in one line of plain ASCII. A line is pieces with `|` between them. `17*xy` is the piece xy seventeen
 // times, and any other piece is itself. In a piece `\HH`, with two lower-case hexadecimal digits, is one byte.
 ghost use Rattle.std.specs.Prelude.{◌≡◌, ◌<◌, ◌≤◌, length, IfSome, OnOk};
-ghost use Rattle.spelled_texts.specs.Spelling.{hex_value, first_of, Adds};
+ghost use Rattle.spelled_texts.specs.Spelling.{hex_value, first_spelled, Adds};
 
 use anyhow::anyhow;
 use std::alloc::Global;
@@ -25,7 +25,7 @@ fn digit_value(digit: u8) -> Option<u8>
 
 // The first byte that a piece spells; none at its end, or where an escape is not whole.
 fn first_byte(piece: &[u8]) -> Option<Spelled>
-    ensures is { result ≡ first_of piece.now }
+    ensures is { result ≡ first_spelled piece.now }
     ensures within { IfSome result (λ s. (0 < s.length) × (s.length ≤ length piece.now)) }
 {
     match piece {

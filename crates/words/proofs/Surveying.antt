@@ -10,7 +10,7 @@ use Rattle.words.specs.declared.survey.Extent.{Extent}
 use Rattle.words.specs.Bytes.{begins, separator}
 use Rattle.words.specs.Kinds.{is}
 use Rattle.words.specs.Nesting.{opens, closes, open_after, too_deep, deepest}
-use Rattle.words.specs.Nests.{nesting, first_of, passed}
+use Rattle.words.specs.Nests.{nesting, first_some, passed}
 use Rattle.words.specs.Spelling.{begun}
 use Rattle.words.specs.Surveys.{first_fault, refused_at, extent, surveyed}
 use Rattle.words.specs.Words.{Token, cut, token, words}
@@ -32,7 +32,7 @@ cut_few p zero (b ∷ bs) = few_first (separator b) p b bs (cut_few (p + 1) 0 bs
 abbrev pub conclude : Nesting → ℕ → List Token → Result Extent Unreadable
 conclude n k ws =
     refused_at (first_fault ws) NotAllowed
-    (refused_at (first_of n.over (too_deep n.depth ws)) TooDeep
+    (refused_at (first_some n.over (too_deep n.depth ws)) TooDeep
     (Ok (extent (k + length ws) (max n.most (deepest n.depth ws)))))
 
 deep_at_least : (d : ℕ) (ws : List Token) → d ≤ deepest d ws
@@ -41,7 +41,7 @@ deep_at_least d [] = omega arith
 deep_at_least d (w ∷ ws) = omega arith
 
 -- a place found before stays the first
-first_stays : (l : Bool) (v : Option ℕ) (p : ℕ) (t : Option ℕ) → first_of v (cond l (Some p) t) ≡ first_of (first_of v (cond l (Some p) None)) t
+first_stays : (l : Bool) (v : Option ℕ) (p : ℕ) (t : Option ℕ) → first_some v (cond l (Some p) t) ≡ first_some (first_some v (cond l (Some p) None)) t
 first_stays true None p t = refl
 first_stays true (Some q) p t = refl
 first_stays false None p t = refl
@@ -54,9 +54,9 @@ joined f u v a b c = λ i. refused_at f NotAllowed (refused_at (a i) TooDeep (Ok
 
 same_end : (o c : Bool) (n : Nesting) (k p : ℕ) (ws : List Token) → n.depth ≤ n.most
     → refused_at (first_fault ws) NotAllowed
-    (refused_at (first_of n.over (cond (o && leb 16 n.depth) (Some p) (too_deep (cond o (n.depth + 1) (cond c (n.depth - 1) n.depth)) ws))) TooDeep
+    (refused_at (first_some n.over (cond (o && leb 16 n.depth) (Some p) (too_deep (cond o (n.depth + 1) (cond c (n.depth - 1) n.depth)) ws))) TooDeep
     (Ok (extent (k + suc (length ws)) (max n.most (max n.depth (deepest (cond o (n.depth + 1) (cond c (n.depth - 1) n.depth)) ws))))))
-    ≡ conclude (cond o (nesting (n.depth + 1) (max n.most (n.depth + 1)) (first_of n.over (cond (leb 16 n.depth) (Some p) None))) (cond c (nesting (n.depth - 1) n.most n.over) n)) (k + 1) ws
+    ≡ conclude (cond o (nesting (n.depth + 1) (max n.most (n.depth + 1)) (first_some n.over (cond (leb 16 n.depth) (Some p) None))) (cond c (nesting (n.depth - 1) n.most n.over) n)) (k + 1) ws
 same_end true c n k p ws h =
     let d = deep_at_least (n.depth + 1) ws in
     joined (first_fault ws) _ _ (first_stays (leb 16 n.depth) n.over p (too_deep (n.depth + 1) ws)) (omega arith) (omega arith)
@@ -69,7 +69,7 @@ pub conclude_word : (n : Nesting) (k : ℕ) (w : Token) (ws : List Token) → is
 unfolding first_fault too_deep deepest open_after
 conclude_word n k w ws e h =
     ap (λ t. refused_at (cond t (Some w.place) (first_fault ws)) NotAllowed
-    (refused_at (first_of n.over (too_deep n.depth (w ∷ ws))) TooDeep (Ok (extent (k + suc (length ws)) (max n.most (deepest n.depth (w ∷ ws))))))) e
+    (refused_at (first_some n.over (too_deep n.depth (w ∷ ws))) TooDeep (Ok (extent (k + suc (length ws)) (max n.most (deepest n.depth (w ∷ ws))))))) e
     ∙ same_end (opens w.kind) (closes w.kind) n k w.place ws h
 
 -- a word that is not allowed is refused at its place
@@ -77,7 +77,7 @@ pub conclude_fault : (n : Nesting) (k : ℕ) (w : Token) (ws : List Token) → i
 unfolding first_fault
 conclude_fault n k w ws e = simp e
 
-ended : (v : Option ℕ) {j k m n : ℕ} → j ≡ k → m ≡ n → refused_at (first_of v None) TooDeep (Ok (extent j m)) ≡ refused_at v TooDeep (Ok (extent k n))
+ended : (v : Option ℕ) {j k m n : ℕ} → j ≡ k → m ≡ n → refused_at (first_some v None) TooDeep (Ok (extent j m)) ≡ refused_at v TooDeep (Ok (extent k n))
 ended None a b = λ i. Ok (extent (a i) (b i))
 ended (Some p) a b = refl
 
@@ -89,7 +89,7 @@ conclude_none n k h = ended n.over (omega arith) (omega arith)
 pub depth_below : (n : Nesting) (j : Kind) (p k : ℕ) → n.depth ≤ k → (passed n j p).depth ≤ k + 1
 depth_below n j p k h = go (opens j) (closes j)
   where
-    go : (o c : Bool) → (cond o (nesting (n.depth + 1) (max n.most (n.depth + 1)) (first_of n.over (cond (leb 16 n.depth) (Some p) None))) (cond c (nesting (n.depth - 1) n.most n.over) n)).depth ≤ k + 1
+    go : (o c : Bool) → (cond o (nesting (n.depth + 1) (max n.most (n.depth + 1)) (first_some n.over (cond (leb 16 n.depth) (Some p) None))) (cond c (nesting (n.depth - 1) n.most n.over) n)).depth ≤ k + 1
     go true c = omega arith
     go false true = omega arith
     go false false = omega arith
@@ -97,8 +97,8 @@ depth_below n j p k h = go (opens j) (closes j)
 pub depth_most : (n : Nesting) (j : Kind) (p : ℕ) → n.depth ≤ n.most → (passed n j p).depth ≤ (passed n j p).most
 depth_most n j p h = go (opens j) (closes j)
   where
-    go : (o c : Bool) → (cond o (nesting (n.depth + 1) (max n.most (n.depth + 1)) (first_of n.over (cond (leb 16 n.depth) (Some p) None))) (cond c (nesting (n.depth - 1) n.most n.over) n)).depth
-        ≤ (cond o (nesting (n.depth + 1) (max n.most (n.depth + 1)) (first_of n.over (cond (leb 16 n.depth) (Some p) None))) (cond c (nesting (n.depth - 1) n.most n.over) n)).most
+    go : (o c : Bool) → (cond o (nesting (n.depth + 1) (max n.most (n.depth + 1)) (first_some n.over (cond (leb 16 n.depth) (Some p) None))) (cond c (nesting (n.depth - 1) n.most n.over) n)).depth
+        ≤ (cond o (nesting (n.depth + 1) (max n.most (n.depth + 1)) (first_some n.over (cond (leb 16 n.depth) (Some p) None))) (cond c (nesting (n.depth - 1) n.most n.over) n)).most
     go true c = omega arith
     go false true = omega arith
     go false false = omega arith

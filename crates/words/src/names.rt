@@ -1,7 +1,7 @@
 ghost use Rattle.std.specs.Prelude.{◌≡◌};
 ghost use Rattle.words.specs.Names.{name_at, is_name, same_name};
 
-use crate::bytes::run_of;
+use crate::bytes::{NameBytes, run_of};
 use crate::spelling::same;
 
 // The name at a place: all letters, digits and underscores from there on.
@@ -12,7 +12,7 @@ pub fn name_at<'a>(text: &'a [u8], place: usize) -> &'a [u8]
         return &text[0..0];
     }
     let rest = &text[place..];
-    &rest[0..run_of::<crate::bytes::NameBytes>(rest)]
+    &rest[0..run_of::<NameBytes>(rest)]
 }
 
 // Whether the name at a place is spelled by these bytes.

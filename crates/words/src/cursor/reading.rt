@@ -2,7 +2,7 @@ ghost use Rattle.std.specs.Prelude.{◌≡◌};
 ghost use Rattle.words.specs.Words.{words, unread, Reads};
 
 use super::{Cursor, Word};
-use crate::bytes::run_of;
+use crate::bytes::{Separators, run_of};
 use crate::spelling::{Front, front_of};
 
 impl<'a> Cursor<'a> {
@@ -18,7 +18,7 @@ impl<'a> Cursor<'a> {
         ensures { Reads self.old result self.new }
     {
         let text = self.text;
-        let place = self.at + run_of::<crate::bytes::Separators>(&text[self.at..]);
+        let place = self.at + run_of::<Separators>(&text[self.at..]);
         let rest = &text[place..];
         let Some(Front { kind, size }) = front_of(rest) else {
             return None;

@@ -3,15 +3,15 @@ use Rattle.std.specs.List.{between}
 use Rattle.std.proofs.lemmas.List.{drop_all}
 use Rattle.std.proofs.lemmas.Slice.{between_to_end, pushed}
 use Rattle.text_trials.specs.declared.spelled.Spelled.{Spelled}
-use Rattle.text_trials.specs.Spelling.{Adds, first_of}
+use Rattle.text_trials.specs.Spelling.{Adds, first_spelled}
 use Rattle.text_trials.specs.Spelling.Adds.{none, one}
 use Rattle.text_trials.proofs.spelled.add_piece.Goals as goal
 
 -- one byte more is added
-more : (text later piece after : List ℕ) (at : ℕ) (s : Spelled) → Some s ≡ first_of (between at (length piece) piece) → later ≡ text ++ s.byte ∷ []
+more : (text later piece after : List ℕ) (at : ℕ) (s : Spelled) → Some s ≡ first_spelled (between at (length piece) piece) → later ≡ text ++ s.byte ∷ []
     → Adds later (drop (at + s.length) piece) after → Adds text (drop at piece) after
 more text later piece after at s first same adds =
-    one (sym (ap first_of (between_to_end piece at (length piece) (omega arith))) ∙ sym first) (rw (drop-drop s.length at piece, ← same) adds)
+    one (sym (ap first_spelled (between_to_end piece at (length piece) (omega arith))) ∙ sym first) (rw (drop-drop s.length at piece, ← same) adds)
 
 pub loop-at-preserved : goal.loop-at-preserved
 loop-at-preserved c =
