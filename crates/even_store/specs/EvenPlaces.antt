@@ -12,7 +12,7 @@ use Rattle.store.specs.Laws.{Lawful}
 use Rattle.values.specs.declared.value.Value.{Value}
 use Rattle.store.specs.Model.{StoredCell, changed, fields_at, slots_of, written}
 use Rattle.store.proofs.Calls.{changed_set, its_count}
-use Rattle.store.proofs.Places.{length_front, nth-front, nth-take, set_front}
+use Rattle.store.proofs.Places.{length_front, slice_get_front, slice_get-take, set_front}
 
 pub used_cells : (s : EvenStore) → length (even_model s).cells ≡ s.used
 unfolding even_model
@@ -20,7 +20,7 @@ used_cells s = length_front placed s.places s.used (omega arith)
 
 pub cell_at : (s : EvenStore) (i : ℕ) (d : Place) → i < s.used → slice_get (even_model s).cells i ≡ Some (placed (slice_index_or s.places i d))
 unfolding even_model
-cell_at s i d h = nth-front placed s.places s.used i d h (omega arith)
+cell_at s i d h = slice_get_front placed s.places s.used i d h (omega arith)
 
 pub count_of : (p : Place) → length (placed p).fields ≡ p.count
 count_of p = simp length-take (omega arith)
@@ -71,7 +71,7 @@ cells_changed s i f v d p h e =
     ∙ sym (changed_set (even_model s).cells i f v (placed (slice_index_or s.places i d)) (cell_at s i d h))
 
 pub field_at_lem : (p : Place) (f : ℕ) (d : Value) → f < p.count → slice_get (placed p).fields f ≡ Some (slice_index_or p.values f d)
-field_at_lem p f d h = nth-take p.values p.count f d h (omega arith)
+field_at_lem p f d h = slice_get-take p.values p.count f d h (omega arith)
 
 pub count_at : (s : EvenStore) (i : ℕ) (d : Place) → i < s.used → Some (get_or s.places i d).count ≡ fields_at (even_model s) i
 count_at s i d h =

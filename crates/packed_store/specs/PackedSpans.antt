@@ -17,7 +17,7 @@ use Rattle.store.specs.Laws.{Lawful}
 use Rattle.store.specs.Model.{StoredCell, changed, field_at, new_cell, slots_of}
 use Rattle.store.proofs.Calls.{its_field}
 use Rattle.packed_store.specs.Packed.{Slot, laid, packed_model}
-use Rattle.store.proofs.Places.{nth-take, set_front}
+use Rattle.store.proofs.Places.{slice_get-take, set_front}
 
 -- the slots of a list of spans
 abbrev pub total : List Span → ℕ
@@ -86,8 +86,8 @@ laid_sum (s ∷ ss) vs a h =
 abbrev pub nowhere : Span
 nowhere = record { head = Object 0; start = 0; count = 0 }
 
-total-front : (ss : List Span) (j n : ℕ) → j ≤ n → total (take j ss) ≤ total (take n ss)
-total-front ss j n h =
+total_front : (ss : List Span) (j n : ℕ) → j ≤ n → total (take j ss) ≤ total (take n ss)
+total_front ss j n h =
     let e = take-take j n ss h in
     let k = sum_by-take-le (λ (s : Span). s.count) (take n ss) j in
     rw e at k
@@ -105,7 +105,7 @@ module _ (s : PackedStore) where
   slots_end i d h =
       let b = s.begins i d h in
       let t = sum_by_more (λ (s : Span). s.count) s.spans i d (omega arith) in
-      let m = total-front s.spans (i + 1) s.used (omega arith) in
+      let m = total_front s.spans (i + 1) s.used (omega arith) in
       let f = s.sum in
       omega arith
 
@@ -128,7 +128,7 @@ module _ (s : PackedStore) where
   field_at_lem i f d v h k =
       let n = (get_or s.spans i d).start in
       let e = slots_end i d h in
-      nth-take (drop n s.slots) (get_or s.spans i d).count f v k (simp length-drop (omega arith)) ∙ ap Some (get_or-drop n s.slots f v)
+      slice_get-take (drop n s.slots) (get_or s.spans i d).count f v k (simp length-drop (omega arith)) ∙ ap Some (get_or-drop n s.slots f v)
 
   all_small : All (λ (x : Span). x.count ≤ 8) (take s.used s.spans)
   all_small =

@@ -15,45 +15,45 @@ use Rattle.store.specs.Rows.{KeepsRows, row_in}
 use Rattle.store.specs.Model.{Model, StoredCell, holding, new_cell, changed, written, done, make_answer, put_answer, after_make, after_put, slots_of, field_at, field_in, fields_at, fields_in, head_at, head_in, value_in}
 
 -- a list with one element more
-pub nth_old : {X : Type 0} (xs : List X) (y : X) (i : ℕ) → i < length xs → slice_get (xs ++ (y ∷ [])) i ≡ slice_get xs i
-nth_old [] y i h = absurd (omega arith)
-nth_old (x ∷ xs) y zero h = refl
-nth_old (x ∷ xs) y (suc i) h = nth_old xs y i (omega arith)
+pub slice_get_old : {X : Type 0} (xs : List X) (y : X) (i : ℕ) → i < length xs → slice_get (xs ++ (y ∷ [])) i ≡ slice_get xs i
+slice_get_old [] y i h = absurd (omega arith)
+slice_get_old (x ∷ xs) y zero h = refl
+slice_get_old (x ∷ xs) y (suc i) h = slice_get_old xs y i (omega arith)
 
-pub nth_new : {X : Type 0} (xs : List X) (y : X) → slice_get (xs ++ (y ∷ [])) (length xs) ≡ Some y
-nth_new [] y = refl
-nth_new (x ∷ xs) y = nth_new xs y
+pub slice_get_new : {X : Type 0} (xs : List X) (y : X) → slice_get (xs ++ (y ∷ [])) (length xs) ≡ Some y
+slice_get_new [] y = refl
+slice_get_new (x ∷ xs) y = slice_get_new xs y
 
 -- a list with one element set
-pub nth-set_other : {X : Type 0} (xs : List X) (i j : ℕ) (y : X) → (j ≡ i → ⊥) → slice_get (set xs i y) j ≡ slice_get xs j
-nth-set_other [] i j y ne = refl
-nth-set_other (x ∷ xs) zero zero y ne = absurd (ne refl)
-nth-set_other (x ∷ xs) zero (suc j) y ne = refl
-nth-set_other (x ∷ xs) (suc i) zero y ne = refl
-nth-set_other (x ∷ xs) (suc i) (suc j) y ne = nth-set_other xs i j y (λ e. ne (ap suc e))
+pub slice_get-set_other : {X : Type 0} (xs : List X) (i j : ℕ) (y : X) → (j ≡ i → ⊥) → slice_get (set xs i y) j ≡ slice_get xs j
+slice_get-set_other [] i j y ne = refl
+slice_get-set_other (x ∷ xs) zero zero y ne = absurd (ne refl)
+slice_get-set_other (x ∷ xs) zero (suc j) y ne = refl
+slice_get-set_other (x ∷ xs) (suc i) zero y ne = refl
+slice_get-set_other (x ∷ xs) (suc i) (suc j) y ne = slice_get-set_other xs i j y (λ e. ne (ap suc e))
 
 clash : {X : Type 0} {C : Type 0} {x : X} → None ≡ Some x → C
 clash e = let z : ◌≡◌ {A = ℕ} 0 1 = cc in absurd (omega arith)
 
-pub nth-set_same : {X : Type 0} (xs : List X) (i : ℕ) (x y : X) → slice_get xs i ≡ Some x → slice_get (set xs i y) i ≡ Some y
-nth-set_same [] i x y e = clash e
-nth-set_same (z ∷ xs) zero x y e = refl
-nth-set_same (z ∷ xs) (suc i) x y e = nth-set_same xs i x y e
+pub slice_get-set_same : {X : Type 0} (xs : List X) (i : ℕ) (x y : X) → slice_get xs i ≡ Some x → slice_get (set xs i y) i ≡ Some y
+slice_get-set_same [] i x y e = clash e
+slice_get-set_same (z ∷ xs) zero x y e = refl
+slice_get-set_same (z ∷ xs) (suc i) x y e = slice_get-set_same xs i x y e
 
 -- the cells with one field changed
-pub nth-changed_other : (cs : List StoredCell) (c f d : ℕ) (v : Value) → (d ≡ c → ⊥) → slice_get (changed cs c f v) d ≡ slice_get cs d
+pub slice_get-changed_other : (cs : List StoredCell) (c f d : ℕ) (v : Value) → (d ≡ c → ⊥) → slice_get (changed cs c f v) d ≡ slice_get cs d
 unfolding changed
-nth-changed_other [] c f d v ne = refl
-nth-changed_other (x ∷ cs) zero f zero v ne = absurd (ne refl)
-nth-changed_other (x ∷ cs) zero f (suc d) v ne = refl
-nth-changed_other (x ∷ cs) (suc c) f zero v ne = refl
-nth-changed_other (x ∷ cs) (suc c) f (suc d) v ne = nth-changed_other cs c f d v (λ e. ne (ap suc e))
+slice_get-changed_other [] c f d v ne = refl
+slice_get-changed_other (x ∷ cs) zero f zero v ne = absurd (ne refl)
+slice_get-changed_other (x ∷ cs) zero f (suc d) v ne = refl
+slice_get-changed_other (x ∷ cs) (suc c) f zero v ne = refl
+slice_get-changed_other (x ∷ cs) (suc c) f (suc d) v ne = slice_get-changed_other cs c f d v (λ e. ne (ap suc e))
 
-pub nth-changed : (cs : List StoredCell) (c f : ℕ) (v : Value) (x : StoredCell) → slice_get cs c ≡ Some x → slice_get (changed cs c f v) c ≡ Some (written x f v)
+pub slice_get-changed : (cs : List StoredCell) (c f : ℕ) (v : Value) (x : StoredCell) → slice_get cs c ≡ Some x → slice_get (changed cs c f v) c ≡ Some (written x f v)
 unfolding changed
-nth-changed [] c f v x e = clash e
-nth-changed (y ∷ cs) zero f v x e = let p : y ≡ x = cc in ap (λ z. Some (written z f v)) p
-nth-changed (y ∷ cs) (suc c) f v x e = nth-changed cs c f v x e
+slice_get-changed [] c f v x e = clash e
+slice_get-changed (y ∷ cs) zero f v x e = let p : y ≡ x = cc in ap (λ z. Some (written z f v)) p
+slice_get-changed (y ∷ cs) (suc c) f v x e = slice_get-changed cs c f v x e
 
 pub length-changed : (cs : List StoredCell) (c f : ℕ) (v : Value) → length (changed cs c f v) ≡ length cs
 unfolding changed
@@ -97,8 +97,8 @@ module _ (m : Model) (c f : ℕ) (v : Value) where
       → (x : StoredCell) → slice_get m.cells c ≡ Some x → (d : ℕ) → g (slice_get (changed m.cells c f v) d) ≡ g (slice_get m.cells d)
   kept_in g same x e d =
       elim (cases_eq d c) [
-        | inl z ↦ rw z (ap g (nth-changed m.cells c f v x e) ∙ same x ∙ ap g (sym e))
-        | inr ne ↦ ap g (nth-changed_other m.cells c f d v ne)
+        | inl z ↦ rw z (ap g (slice_get-changed m.cells c f v x e) ∙ same x ∙ ap g (sym e))
+        | inr ne ↦ ap g (slice_get-changed_other m.cells c f d v ne)
       ]
 
   pub one_field : (w : Value) → field_at m c f ≡ Ok w → OneField m (holding m (changed m.cells c f v)) c f v
@@ -106,17 +106,17 @@ module _ (m : Model) (c f : ℕ) (v : Value) where
   one_field w r =
       let x = found m c f w r in
       let y = x.cell in
-      let n = nth-changed m.cells c f v y x.at_cell in
-      let s = nth-set_same y.fields f w v x.at_field in
+      let n = slice_get-changed m.cells c f v y x.at_cell in
+      let s = slice_get-set_same y.fields f w v x.at_field in
       record {
         reads = simp (n, s);
         others = λ d g apart.
             elim (cases_eq d c) [
               | inl z ↦
-                  let k = nth-set_other y.fields f g v (λ e. apart z e) in
+                  let k = slice_get-set_other y.fields f g v (λ e. apart z e) in
                   let a = x.at_cell in
                   rw z (simp (n, k, a))
-              | inr ne ↦ let k = nth-changed_other m.cells c f d v ne in simp k
+              | inr ne ↦ let k = slice_get-changed_other m.cells c f d v ne in simp k
             ];
         heads = kept_in head_in (λ z. refl) y x.at_cell;
         counts = kept_in fields_in (λ z. ap Some (length-set z.fields f v)) y x.at_cell;
@@ -129,7 +129,7 @@ module _ (m : Model) (h : Head) (n : ℕ) where
   pub one_cell : OneCell m (holding m (m.cells ++ (new_cell h n ∷ []))) h n (length m.cells)
   unfolding field_at fields_at head_at
   one_cell =
-      let e = nth_new m.cells (new_cell h n) in
+      let e = slice_get_new m.cells (new_cell h n) in
       record {
         next = refl;
         head = simp e;
@@ -139,10 +139,10 @@ module _ (m : Model) (h : Head) (n : ℕ) where
             let p = slice_get-get_or (replicate n Null) f Null l in
             let q = get_or-replicate n f Null Null k in
             simp (e, p, q);
-        heads = λ d k. let o = nth_old m.cells (new_cell h n) d k in simp o;
-        fields = λ d f k. let o = nth_old m.cells (new_cell h n) d k in simp o;
+        heads = λ d k. let o = slice_get_old m.cells (new_cell h n) d k in simp o;
+        fields = λ d f k. let o = slice_get_old m.cells (new_cell h n) d k in simp o;
         cells = length-append m.cells (new_cell h n ∷ []);
-        rows = rows_kept m (holding m (m.cells ++ (new_cell h n ∷ []))) (λ d k. let o = nth_old m.cells (new_cell h n) d k in simp o);
+        rows = rows_kept m (holding m (m.cells ++ (new_cell h n ∷ []))) (λ d k. let o = slice_get_old m.cells (new_cell h n) d k in simp o);
         fixed = refl;
       }
 
