@@ -12,10 +12,10 @@ use Rattle.declarations.specs.declared.declarations.Ends.{Ends}
 use Rattle.declarations.specs.Resolved.{Declared}
 use Rattle.declarations.specs.Rows.{given}
 use Rattle.typing.specs.declared.step.Step.TheVariants as step
-use Rattle.typing.specs.declared.step.Ruling.TheVariants.{Done}
+use Rattle.typing.specs.declared.step.Ruling.TheVariants as ruling
 use Rattle.typing.specs.HasType.{Is, EndsOf, Comparable, as_null, as_row, HasType, true_typed, false_typed, null_typed, this_typed, variable_typed, new_typed, partners_typed, field_typed, instances_typed, from_typed, to_typed, equal_typed, set_variable_typed, set_field_typed, add_typed, rem_typed, call_typed, InOrder, action_ordered, branch_ordered, return_ordered}
 use Rattle.typing.specs.Lookup.{row_of_kind, as_relationship, relationship_of}
-use Rattle.typing.specs.Typing.{comparable, is_boolean, of_shape}
+use Rattle.typing.specs.Typing.{ordered, comparable, is_boolean, of_shape}
 use Rattle.typing.specs.Passing.{plain_node, node_at, type_of, ruling_by, types_to, ruling_at, type_at}
 use Rattle.typing.proofs.Upwards.{up_field, up_method}
 
@@ -130,7 +130,7 @@ module _ (text : List ℕ) (k : Contents) (d : Declared) where
         typed is (simp (l, r, e, b, g))
 
     -- a statement in order is judged so
-    pub complete_ordered : {i : ℕ} → InOrder text k d i → (s : _) × (ruling_at text k d i ≡ Done s)
+    pub complete_ordered : {i : ℕ} → InOrder text k d i → (s : _) × (ruling_at text k d i ≡ ordered s)
     complete_ordered (action_ordered is h p) =
         let l = part_typed h (complete p) in
         (step.Drop, judged is ∙ simp l)

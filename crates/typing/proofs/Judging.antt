@@ -5,10 +5,9 @@ use Rattle.values.specs.declared.types.Ty.{Ty}
 use Rattle.outline.specs.declared.entry.Node.{Node}
 use Rattle.outline.specs.Contents.{Contents}
 use Rattle.declarations.specs.Resolved.{Declared}
-use Rattle.typing.specs.declared.step.Ruling.{Ruling}
 use Rattle.typing.specs.declared.step.Instruction.{Instruction}
 use Rattle.typing.specs.Coding.{decoded}
-use Rattle.typing.specs.Typing.{ruling_of}
+use Rattle.typing.specs.Typing.{Ruled, ruling_of}
 use Rattle.typing.specs.Passing.{node_at, type_of, types_to, ruling_at, fault_place, untyped, instruction_for, instruction_at, part_in}
 
 module _ (text : List ℕ) (k : Contents) (d : Declared) where
@@ -44,7 +43,7 @@ module _ (text : List ℕ) (k : Contents) (d : Declared) where
         | inr b ↦ let e : ltb j i ≡ false = le-ltb _ _ b in simp e (sym (none_later i j b))
       ]
 
-  pub ruling_is : (i : ℕ) (v : Node) (left right : Option Ty) (r : Ruling) → v ≡ node_at k i → left ≡ types_to text k d i v.left → right ≡ types_to text k d i v.right
+  pub ruling_is : (i : ℕ) (v : Node) (left right : Option Ty) (r : Ruled) → v ≡ node_at k i → left ≡ types_to text k d i v.left → right ≡ types_to text k d i v.right
       → r ≡ ruling_of text k d v left right → r ≡ ruling_at text k d i
   unfolding ruling_at
   ruling_is i v left right r e p q f =
@@ -52,15 +51,15 @@ module _ (text : List ℕ) (k : Contents) (d : Declared) where
       ∙ (λ z. ruling_of text k d v (p z) (q z))
       ∙ ap (λ (x : Node). ruling_of text k d x (types_to text k d i x.left) (types_to text k d i x.right)) e
 
-  pub place_is : (i : ℕ) (v : Node) (r : Ruling) (p : Option ℕ) → v ≡ node_at k i → r ≡ ruling_at text k d i → p ≡ fault_place r v.place → p ≡ untyped text k d i
+  pub place_is : (i : ℕ) (v : Node) (r : Ruled) (p : Option ℕ) → v ≡ node_at k i → r ≡ ruling_at text k d i → p ≡ fault_place r v.place → p ≡ untyped text k d i
   unfolding untyped
   place_is i v r p a b e = e ∙ (λ z. fault_place (b z) (a z).place)
 
-  pub instruction_is : (i : ℕ) (v : Node) (r : Ruling) (x : Instruction) → v ≡ node_at k i → r ≡ ruling_at text k d i → x ≡ instruction_for r v → x ≡ instruction_at text k d i
+  pub instruction_is : (i : ℕ) (v : Node) (r : Ruled) (x : Instruction) → v ≡ node_at k i → r ≡ ruling_at text k d i → x ≡ instruction_for r v → x ≡ instruction_at text k d i
   unfolding instruction_at
   instruction_is i v r x a b e = e ∙ (λ z. instruction_for (b z) (a z))
 
-  pub keeps_more : (scratch : List ℕ) (i x : ℕ) (r : Ruling) (t : Option Ty) → Keeps scratch i → i < length scratch → r ≡ ruling_at text k d i → t ≡ type_of r → decoded x ≡ t
+  pub keeps_more : (scratch : List ℕ) (i x : ℕ) (r : Ruled) (t : Option Ty) → Keeps scratch i → i < length scratch → r ≡ ruling_at text k d i → t ≡ type_of r → decoded x ≡ t
       → Keeps (set scratch i x) (i + 1)
   keeps_more scratch i x r t inv h e f g =
       record {

@@ -34,41 +34,35 @@ fn node_at(outline: &Outline, i: usize) -> Node
     }
 }
 
-fn type_of(ruling: Ruling) -> Option<Ty>
+fn type_of(ruling: Option<Ruling>) -> Option<Ty>
     ensures { result ≡ type_of ruling }
 {
     match ruling {
-        Ruling::Typed(t, _) => Some(t),
-        Ruling::Done(_) => None,
-        Ruling::Waits => None,
-        Ruling::Fault => None,
+        Some(Ruling::Typed(t, _)) => Some(t),
+        _ => None,
     }
 }
 
 // The place, if the ruling is a fault.
-fn fault_place(ruling: Ruling, place: usize) -> Option<usize>
+fn fault_place(ruling: Option<Ruling>, place: usize) -> Option<usize>
     ensures { result ≡ fault_place ruling place }
 {
     match ruling {
-        Ruling::Typed(_, _) => None,
-        Ruling::Done(_) => None,
-        Ruling::Waits => None,
-        Ruling::Fault => Some(place),
+        None => Some(place),
+        Some(_) => None,
     }
 }
 
-fn step_of(ruling: Ruling) -> Step
+fn step_of(ruling: Option<Ruling>) -> Step
     ensures { result ≡ step_of ruling }
 {
     match ruling {
-        Ruling::Typed(_, step) => step,
-        Ruling::Done(step) => step,
-        Ruling::Waits => Step::Null,
-        Ruling::Fault => Step::Null,
+        Some(Ruling::Typed(_, step) | Ruling::Done(step)) => step,
+        _ => Step::Null,
     }
 }
 
-fn instruction_for(ruling: Ruling, node: Node) -> Instruction
+fn instruction_for(ruling: Option<Ruling>, node: Node) -> Instruction
     ensures { result ≡ instruction_for ruling node }
 {
     Instruction {

@@ -39,12 +39,12 @@ fn fits_row(declarations: &Declarations, s: Ty, row: CellRow) -> bool
 }
 
 // this: the row that owns the method
-fn this_rule(outline: &Outline, method: usize) -> Ruling
+fn this_rule(outline: &Outline, method: usize) -> Option<Ruling>
     ensures { result ≡ this_ruling (contents outline.now) method }
 {
     match outline.methods.get(method) {
-        None => Ruling::Fault,
-        Some(found) => Ruling::Typed(type_of_row(found.owner), Step::This),
+        None => None,
+        Some(found) => Some(Ruling::Typed(type_of_row(found.owner), Step::This)),
     }
 }
 
@@ -55,39 +55,39 @@ fn variable_rule<'a>(
     declarations: &'a Declarations,
     method: usize,
     name: usize,
-) -> Ruling
+) -> Option<Ruling>
     ensures { result ≡ variable_ruling text.now (contents outline.now) (declared declarations.now) method name }
 {
     match variable_named(text, outline, method, name) {
-        None => Ruling::Fault,
+        None => None,
         Some(i) => match declarations.variables.get(i) {
-            None => Ruling::Fault,
-            Some(t) => Ruling::Typed(t, Step::Variable(variable_number(outline, method, i))),
+            None => None,
+            Some(t) => Some(Ruling::Typed(t, Step::Variable(variable_number(outline, method, i)))),
         },
     }
 }
 
 // A new object has its class.
-fn new_rule(text: &[u8], outline: &Outline, name: usize) -> Ruling
+fn new_rule(text: &[u8], outline: &Outline, name: usize) -> Option<Ruling>
     ensures { result ≡ new_ruling text.now (contents outline.now) name }
 {
     match class_named(text, outline, name) {
-        None => Ruling::Fault,
-        Some(n) => Ruling::Typed(Ty::of_row(Lineage::Class, n), Step::New(n)),
+        None => None,
+        Some(n) => Some(Ruling::Typed(Ty::of_row(Lineage::Class, n), Step::New(n))),
     }
 }
 
 // The partners of what fits the first end: a set of the second end.
-fn partners_rule(declarations: &Declarations, s: Ty, r: u8) -> Ruling
+fn partners_rule(declarations: &Declarations, s: Ty, r: u8) -> Option<Ruling>
     ensures { result ≡ partners_ruling (declared declarations.now) s r }
 {
     match declarations.ends.get(r as usize) {
-        None => Ruling::Fault,
+        None => None,
         Some(ends) => {
             if fits_row(declarations, s, ends.first) {
-                Ruling::Typed(set_of_row(ends.second), Step::Partners(r))
+                Some(Ruling::Typed(set_of_row(ends.second), Step::Partners(r)))
             } else {
-                Ruling::Fault
+                None
             }
         }
     }
@@ -100,14 +100,14 @@ fn field_rule<'a>(
     declarations: &'a Declarations,
     s: Ty,
     name: usize,
-) -> Ruling
+) -> Option<Ruling>
     ensures { result ≡ field_ruling text.now (contents outline.now) (declared declarations.now) s name }
 {
     match field_from(text, outline, declarations, s, name) {
-        None => Ruling::Fault,
+        None => None,
         Some(f) => match declarations.fields.get(f) {
-            None => Ruling::Fault,
-            Some(t) => Ruling::Typed(t, Step::Field(f)),
+            None => None,
+            Some(t) => Some(Ruling::Typed(t, Step::Field(f))),
         },
     }
 }
@@ -119,7 +119,7 @@ fn member_rule<'a>(
     declarations: &'a Declarations,
     s: Ty,
     name: usize,
-) -> Ruling
+) -> Option<Ruling>
     ensures { result ≡ member_ruling text.now (contents outline.now) (declared declarations.now) s name }
 {
     match relationship_named(text, outline, name) {
@@ -135,18 +135,18 @@ fn instances_rule<'a>(
     declarations: &'a Declarations,
     s: Ty,
     name: usize,
-) -> Ruling
+) -> Option<Ruling>
     ensures { result ≡ instances_ruling text.now (contents outline.now) (declared declarations.now) s name }
 {
     match relationship_named(text, outline, name) {
-        None => Ruling::Fault,
+        None => None,
         Some(r) => match declarations.ends.get(r as usize) {
-            None => Ruling::Fault,
+            None => None,
             Some(ends) => {
                 if fits_row(declarations, s, ends.first) {
-                    Ruling::Typed(Ty::set_of(Lineage::Relationship, r), Step::Instances(r))
+                    Some(Ruling::Typed(Ty::set_of(Lineage::Relationship, r), Step::Instances(r)))
                 } else {
-                    Ruling::Fault
+                    None
                 }
             }
         },
@@ -154,27 +154,27 @@ fn instances_rule<'a>(
 }
 
 // The first end of a relationship row.
-fn from_rule(declarations: &Declarations, s: Ty) -> Ruling
+fn from_rule(declarations: &Declarations, s: Ty) -> Option<Ruling>
     ensures { result ≡ from_ruling (declared declarations.now) s }
 {
     match relationship_of(s) {
-        None => Ruling::Fault,
+        None => None,
         Some(r) => match declarations.ends.get(r as usize) {
-            None => Ruling::Fault,
-            Some(ends) => Ruling::Typed(type_of_row(ends.first), Step::From),
+            None => None,
+            Some(ends) => Some(Ruling::Typed(type_of_row(ends.first), Step::From)),
         },
     }
 }
 
 // The second end of a relationship row.
-fn to_rule(declarations: &Declarations, s: Ty) -> Ruling
+fn to_rule(declarations: &Declarations, s: Ty) -> Option<Ruling>
     ensures { result ≡ to_ruling (declared declarations.now) s }
 {
     match relationship_of(s) {
-        None => Ruling::Fault,
+        None => None,
         Some(r) => match declarations.ends.get(r as usize) {
-            None => Ruling::Fault,
-            Some(ends) => Ruling::Typed(type_of_row(ends.second), Step::To),
+            None => None,
+            Some(ends) => Some(Ruling::Typed(type_of_row(ends.second), Step::To)),
         },
     }
 }
@@ -191,13 +191,13 @@ fn comparable(kind: Kind) -> bool
     }
 }
 
-fn compare_rule(s: Ty, t: Ty) -> Ruling
+fn compare_rule(s: Ty, t: Ty) -> Option<Ruling>
     ensures { result ≡ compare_ruling s t }
 {
     if comparable(s.kind()) && comparable(t.kind()) {
-        Ruling::Typed(Ty::boolean(), Step::Compare)
+        Some(Ruling::Typed(Ty::boolean(), Step::Compare))
     } else {
-        Ruling::Fault
+        None
     }
 }
 
@@ -209,18 +209,18 @@ fn set_variable_rule<'a>(
     method: usize,
     name: usize,
     t: Ty,
-) -> Ruling
+) -> Option<Ruling>
     ensures { result ≡ set_variable_ruling text.now (contents outline.now) (declared declarations.now) method name t }
 {
     match variable_named(text, outline, method, name) {
-        None => Ruling::Fault,
+        None => None,
         Some(i) => match declarations.variables.get(i) {
-            None => Ruling::Fault,
+            None => None,
             Some(u) => {
                 if fits(declarations, t, u) {
-                    Ruling::Typed(t, Step::SetVariable(variable_number(outline, method, i)))
+                    Some(Ruling::Typed(t, Step::SetVariable(variable_number(outline, method, i))))
                 } else {
-                    Ruling::Fault
+                    None
                 }
             }
         },
@@ -235,18 +235,18 @@ fn set_field_rule<'a>(
     s: Ty,
     name: usize,
     t: Ty,
-) -> Ruling
+) -> Option<Ruling>
     ensures { result ≡ set_field_ruling text.now (contents outline.now) (declared declarations.now) s name t }
 {
     match field_from(text, outline, declarations, s, name) {
-        None => Ruling::Fault,
+        None => None,
         Some(f) => match declarations.fields.get(f) {
-            None => Ruling::Fault,
+            None => None,
             Some(u) => {
                 if fits(declarations, t, u) {
-                    Ruling::Typed(t, Step::SetField(f))
+                    Some(Ruling::Typed(t, Step::SetField(f)))
                 } else {
-                    Ruling::Fault
+                    None
                 }
             }
         },
@@ -261,12 +261,12 @@ fn set_member_rule<'a>(
     s: Ty,
     name: usize,
     t: Ty,
-) -> Ruling
+) -> Option<Ruling>
     ensures { result ≡ set_member_ruling text.now (contents outline.now) (declared declarations.now) s name t }
 {
     match relationship_named(text, outline, name) {
         None => set_field_rule(text, outline, declarations, s, name, t),
-        Some(_) => Ruling::Fault,
+        Some(_) => None,
     }
 }
 
@@ -304,12 +304,12 @@ fn add_rule<'a>(
     name: usize,
     s: Ty,
     t: Ty,
-) -> Ruling
+) -> Option<Ruling>
     ensures { result ≡ add_ruling text.now (contents outline.now) (declared declarations.now) name s t }
 {
     match pair_named(text, outline, declarations, name, s, t) {
-        None => Ruling::Fault,
-        Some(r) => Ruling::Typed(Ty::of_row(Lineage::Relationship, r), Step::Add(r)),
+        None => None,
+        Some(r) => Some(Ruling::Typed(Ty::of_row(Lineage::Relationship, r), Step::Add(r))),
     }
 }
 
@@ -321,12 +321,12 @@ fn rem_rule<'a>(
     name: usize,
     s: Ty,
     t: Ty,
-) -> Ruling
+) -> Option<Ruling>
     ensures { result ≡ rem_ruling text.now (contents outline.now) (declared declarations.now) name s t }
 {
     match pair_named(text, outline, declarations, name, s, t) {
-        None => Ruling::Fault,
-        Some(r) => Ruling::Typed(Ty::of_row(Lineage::Relationship, r), Step::Rem(r)),
+        None => None,
+        Some(r) => Some(Ruling::Typed(Ty::of_row(Lineage::Relationship, r), Step::Rem(r))),
     }
 }
 
@@ -338,18 +338,18 @@ fn call_rule<'a>(
     s: Ty,
     name: usize,
     t: Ty,
-) -> Ruling
+) -> Option<Ruling>
     ensures { result ≡ call_ruling text.now (contents outline.now) (declared declarations.now) s name t }
 {
     match method_from(text, outline, declarations, s, name) {
-        None => Ruling::Fault,
+        None => None,
         Some(m) => match declarations.methods.get(m) {
-            None => Ruling::Fault,
+            None => None,
             Some(signature) => {
                 if fits(declarations, t, signature.parameter) {
-                    Ruling::Typed(signature.result, Step::Call(m))
+                    Some(Ruling::Typed(signature.result, Step::Call(m)))
                 } else {
-                    Ruling::Fault
+                    None
                 }
             }
         },
@@ -368,27 +368,27 @@ fn is_boolean(kind: Kind) -> bool
 }
 
 // A condition is boolean.
-fn branch_rule(s: Ty) -> Ruling
+fn branch_rule(s: Ty) -> Option<Ruling>
     ensures { result ≡ branch_ruling s }
 {
     if is_boolean(s.kind()) {
-        Ruling::Done(Step::Branch)
+        Some(Ruling::Done(Step::Branch))
     } else {
-        Ruling::Fault
+        None
     }
 }
 
 // What is returned fits the method's result.
-fn return_rule(declarations: &Declarations, method: usize, s: Ty) -> Ruling
+fn return_rule(declarations: &Declarations, method: usize, s: Ty) -> Option<Ruling>
     ensures { result ≡ return_ruling (declared declarations.now) method s }
 {
     match declarations.methods.get(method) {
-        None => Ruling::Fault,
+        None => None,
         Some(signature) => {
             if fits(declarations, s, signature.result) {
-                Ruling::Done(Step::Return)
+                Some(Ruling::Done(Step::Return))
             } else {
-                Ruling::Fault
+                None
             }
         }
     }
@@ -402,81 +402,81 @@ pub fn rule<'a>(
     node: Node,
     left: Option<Ty>,
     right: Option<Ty>,
-) -> Ruling
+) -> Option<Ruling>
     ensures { result ≡ ruling_of text.now (contents outline.now) (declared declarations.now) node left right }
 {
     match node.shape {
         Shape::Variable => variable_rule(text, outline, declarations, node.method, node.name),
-        Shape::True => Ruling::Typed(Ty::boolean(), Step::Truth(true)),
-        Shape::False => Ruling::Typed(Ty::boolean(), Step::Truth(false)),
-        Shape::Null => Ruling::Typed(Ty::null(), Step::Null),
+        Shape::True => Some(Ruling::Typed(Ty::boolean(), Step::Truth(true))),
+        Shape::False => Some(Ruling::Typed(Ty::boolean(), Step::Truth(false))),
+        Shape::Null => Some(Ruling::Typed(Ty::null(), Step::Null)),
         Shape::This => this_rule(outline, node.method),
         Shape::New => new_rule(text, outline, node.name),
         Shape::Add => match left {
-            None => Ruling::Waits,
+            None => Some(Ruling::Waits),
             Some(s) => match right {
-                None => Ruling::Waits,
+                None => Some(Ruling::Waits),
                 Some(t) => add_rule(text, outline, declarations, node.name, s, t),
             },
         },
         Shape::Rem => match left {
-            None => Ruling::Waits,
+            None => Some(Ruling::Waits),
             Some(s) => match right {
-                None => Ruling::Waits,
+                None => Some(Ruling::Waits),
                 Some(t) => rem_rule(text, outline, declarations, node.name, s, t),
             },
         },
         Shape::Member => match left {
-            None => Ruling::Waits,
+            None => Some(Ruling::Waits),
             Some(s) => member_rule(text, outline, declarations, s, node.name),
         },
         Shape::Call => match left {
-            None => Ruling::Waits,
+            None => Some(Ruling::Waits),
             Some(s) => match right {
-                None => Ruling::Waits,
+                None => Some(Ruling::Waits),
                 Some(t) => call_rule(text, outline, declarations, s, node.name, t),
             },
         },
         Shape::Instances => match left {
-            None => Ruling::Waits,
+            None => Some(Ruling::Waits),
             Some(s) => instances_rule(text, outline, declarations, s, node.name),
         },
         Shape::From => match left {
-            None => Ruling::Waits,
+            None => Some(Ruling::Waits),
             Some(s) => from_rule(declarations, s),
         },
         Shape::To => match left {
-            None => Ruling::Waits,
+            None => Some(Ruling::Waits),
             Some(s) => to_rule(declarations, s),
         },
         Shape::Equal => match left {
-            None => Ruling::Waits,
+            None => Some(Ruling::Waits),
             Some(s) => match right {
-                None => Ruling::Waits,
+                None => Some(Ruling::Waits),
                 Some(t) => compare_rule(s, t),
             },
         },
         Shape::SetVariable => match right {
-            None => Ruling::Waits,
+            None => Some(Ruling::Waits),
             Some(t) => set_variable_rule(text, outline, declarations, node.method, node.name, t),
         },
         Shape::SetMember => match left {
-            None => Ruling::Waits,
+            None => Some(Ruling::Waits),
             Some(s) => match right {
-                None => Ruling::Waits,
+                None => Some(Ruling::Waits),
                 Some(t) => set_member_rule(text, outline, declarations, s, node.name, t),
             },
         },
         Shape::Action => match left {
-            None => Ruling::Waits,
-            Some(_) => Ruling::Done(Step::Drop),
+            None => Some(Ruling::Waits),
+            Some(_) => Some(Ruling::Done(Step::Drop)),
         },
         Shape::Branch => match left {
-            None => Ruling::Waits,
+            None => Some(Ruling::Waits),
             Some(s) => branch_rule(s),
         },
         Shape::Return => match left {
-            None => Ruling::Waits,
+            None => Some(Ruling::Waits),
             Some(s) => return_rule(declarations, node.method, s),
         },
     }

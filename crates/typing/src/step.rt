@@ -25,14 +25,13 @@ pub enum Step {
     Return,
 }
 
-// What the typing rules say of a node: it has a type, it is a statement in order, a part of it has no type, or no rule
-// gives it a type.
+// What the typing rules say of a node that they cover: it has a type, it is a statement in order, or a part of it has no
+// type.
 #[derive(Clone, Copy)]
 pub enum Ruling {
     Typed(Ty, Step),
     Done(Step),
     Waits,
-    Fault,
 }
 
 // A node's step, with its method, its place in the text and the numbers of its parts.
