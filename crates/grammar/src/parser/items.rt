@@ -13,7 +13,7 @@ use words::kind::Kind;
 
 // What an item is so far: a name alone or one that ends in `.name`, of which nothing is reported yet; one that may
 // stand as an action; or any other.
-#[derive(Clone, Copy)]
+#[derive(Clone, Copy, PartialEq, Eq, Debug)]
 pub(crate) enum Found {
     Bare,
     Inner(usize),

@@ -8,7 +8,7 @@ use words::cursor::Cursor;
 use words::kind::Kind;
 
 // A word that cannot come, by its place.
-#[derive(Clone, Copy)]
+#[derive(Clone, Copy, PartialEq, Eq, Debug)]
 pub struct Unexpected {
     pub place: usize,
 }

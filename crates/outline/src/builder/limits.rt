@@ -3,56 +3,9 @@ ghost use Rattle.outline.specs.Built.{Empty, limit_of};
 
 use super::{Builder, Tally};
 use crate::contents::Outline;
-use crate::entry::{Block, Field, Method, Node, Open, Row, Shape, Variable};
-use grammar::event::TypeWord;
+use crate::entry::Open;
 use tables::table::Table;
-use values::types::{CellRow, Lineage};
-
-// What stands in memory that is not used yet.
-const OBJECT: CellRow = CellRow {
-    lineage: Lineage::Class,
-    number: 0,
-};
-
-const ROW: Row = Row {
-    name: 0,
-    parent: 0,
-    first: 0,
-    second: 0,
-};
-
-const FIELD: Field = Field {
-    owner: OBJECT,
-    typed: TypeWord::Boolean,
-    name: 0,
-};
-
-const METHOD: Method = Method {
-    owner: OBJECT,
-    result: TypeWord::Boolean,
-    name: 0,
-};
-
-const VARIABLE: Variable = Variable {
-    method: 0,
-    typed: TypeWord::Boolean,
-    name: 0,
-};
-
-const NODE: Node = Node {
-    shape: Shape::Null,
-    method: 0,
-    name: 0,
-    place: 0,
-    left: 0,
-    right: 0,
-};
-
-const BLOCK: Block = Block {
-    branch: 0,
-    otherwise: 0,
-    joined: 0,
-};
+use values::types::CellRow;
 
 impl Builder {
     // Before the first event.
@@ -61,15 +14,15 @@ impl Builder {
     {
         Builder {
             outline: Outline {
-                classes: Table::new(ROW),
-                relationships: Table::new(ROW),
-                fields: Table::new(FIELD),
-                methods: Table::new(METHOD),
-                variables: Table::new(VARIABLE),
-                nodes: Table::new(NODE),
-                blocks: Table::new(BLOCK),
+                classes: Table::new(),
+                relationships: Table::new(),
+                fields: Table::new(),
+                methods: Table::new(),
+                variables: Table::new(),
+                nodes: Table::new(),
+                blocks: Table::new(),
             },
-            opened: Table::new(Open::held(0, 0)),
+            opened: Table::new(),
             tally: Tally {
                 classes: 0,
                 relationships: 0,
@@ -79,7 +32,7 @@ impl Builder {
                 most: 0,
                 nodes: 0,
                 tallest: 0,
-                owner: OBJECT,
+                owner: CellRow::default(),
                 in_method: false,
             },
         }

@@ -1,12 +1,25 @@
 ghost use Rattle.std.specs.Prelude.{◌≡◌, Decides};
+ghost use Rattle.descent.specs.Rows.{line_of};
 ghost use Rattle.values.specs.Admits.{FitLaws};
-ghost use Rattle.values.specs.Fits.{Fits, RowFits, fits_to, kind_fits_to, row_fits_to};
+ghost use Rattle.values.specs.Fits.{Fits, RowFits, fits_to, kind_fits_to, line_in, row_fits_to};
 ghost use Rattle.values.specs.Lines.{ancestry};
 
 use super::Lines;
 use crate::types::{Kind, Lineage, Ty};
+use descent::line::Line;
 
 impl Lines {
+    // The line of a lineage.
+    #[tactic(auto, unfolding(crate::specs::Lines::ancestry))]
+    pub fn line(&self, lineage: Lineage) -> &Line
+        ensures { line_of result.now ≡ line_in (ancestry self.now) lineage }
+    {
+        match lineage {
+            Lineage::Class => &self.classes,
+            Lineage::Relationship => &self.relationships,
+        }
+    }
+
     // Whether row m of one line fits row n of the same or another line.
     pub fn row_fits(&self, from: Lineage, m: u8, to: Lineage, n: u8) -> bool
         ensures relation { Decides result (RowFits (ancestry self.now) from m to n) }

@@ -104,3 +104,11 @@ impl Ty {
         }
     }
 }
+
+impl Default for Ty {
+    ghost is_default = { λ t. t ≡ boolean };
+
+    fn default() -> Ty {
+        Ty::boolean()
+    }
+}
