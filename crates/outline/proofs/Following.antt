@@ -7,6 +7,8 @@ use Rattle.grammar.specs.declared.event.Event.{Event}
 use Rattle.grammar.specs.Events.{events, fed}
 use Rattle.grammar.specs.Trees.{Program}
 use Rattle.outline.specs.declared.builder.Builder.{Builder}
+use Rattle.outline.specs.declared.limit.Limit.{Limit}
+use Rattle.outline.specs.declared.limit.Limit.TheVariants as limit
 use Rattle.outline.specs.Building.{built}
 use Rattle.outline.specs.Built.{Empty, limit_of}
 use Rattle.outline.specs.Contents.{contents}
@@ -70,7 +72,7 @@ builds t b c e p =
 capped : (limit m n : ℕ) → m ≡ min n (limit + 1) → ltb limit m ≡ ltb limit n
 capped limit m n e = grind (arith, nat_tests)
 
-chain : (a b : Bool) (n : ℕ) (x y : Option ℕ) → a ≡ b → (b ≡ false → x ≡ y) → passed a n x ≡ passed b n y
+chain : (a b : Bool) (n : Limit) (x y : Option Limit) → a ≡ b → (b ≡ false → x ≡ y) → passed a n x ≡ passed b n y
 chain true true n x y e f = refl
 chain true false n x y e f = absurd (both_ways false refl (sym e))
 chain false true n x y e f = absurd (both_ways false refl e)
@@ -91,20 +93,20 @@ unfolding limit_passed contents_of
 same_limits t b g =
     let l = laid 0 t nothing in
     let c = g.tracks.counts in
-    chain _ _ 1 _ _ (test 31 b.tally.classes l.classes c.classes) (λ h1.
-    chain _ _ 2 _ _ (test 31 b.tally.relationships l.relationships c.relationships) (λ h2.
-    chain _ _ 3 _ _ (test 128 b.tally.fields l.fields c.fields) (λ h3.
-    chain _ _ 4 _ _ (test 64 b.tally.methods l.methods c.methods) (λ h4.
-    chain _ _ 5 _ _ (capped 12 b.tally.most (crowd 0 t) c.most) (λ h5.
-    chain _ _ 6 _ _ (test 2048 b.tally.nodes l.nodes (c.nodes ∙ plain (length l.nodes))) (λ h6.
+    chain _ _ limit.Classes _ _ (test 31 b.tally.classes l.classes c.classes) (λ h1.
+    chain _ _ limit.Relationships _ _ (test 31 b.tally.relationships l.relationships c.relationships) (λ h2.
+    chain _ _ limit.Fields _ _ (test 128 b.tally.fields l.fields c.fields) (λ h3.
+    chain _ _ limit.Methods _ _ (test 64 b.tally.methods l.methods c.methods) (λ h4.
+    chain _ _ limit.Variables _ _ (capped 12 b.tally.most (crowd 0 t) c.most) (λ h5.
+    chain _ _ limit.Nodes _ _ (test 2048 b.tally.nodes l.nodes (c.nodes ∙ plain (length l.nodes))) (λ h6.
     let n = listed_in 2048 l.nodes h6 in
     let s = g.tracks.same (record { classes = listed_in 31 l.classes h1; relationships = listed_in 31 l.relationships h2; fields = listed_in 128 l.fields h3; methods = listed_in 64 l.methods h4; nodes = n; count = omega arith; most = in_limit 12 (crowd 0 t) h5 }) in
-    ap (λ y. passed y 7 None) (capped 16 b.tally.tallest (height 0 t) s.tallest)))))))
+    ap (λ y. passed y limit.Height None) (capped 16 b.tally.tallest (height 0 t) s.tallest)))))))
   where
     plain : (n : ℕ) → min (n + 0) 2049 ≡ min n 2049
     plain n = omega arith
 
-no_limit : (a : Bool) (n : ℕ) (x : Option ℕ) → passed a n x ≡ None → (a ≡ false) × (x ≡ None)
+no_limit : (a : Bool) (n : Limit) (x : Option Limit) → passed a n x ≡ None → (a ≡ false) × (x ≡ None)
 no_limit true n x e = let z : ◌≡◌ {A = ℕ} 0 1 = cc in absurd (omega arith)
 no_limit false n x e = (refl, e)
 
@@ -113,12 +115,12 @@ pub same_tables : (t : Program) (b : Builder) → Built t b → limit_passed t �
 unfolding limit_passed contents_of
 same_tables t b g e =
     let l = laid 0 t nothing in
-    let h1 = no_limit _ 1 _ e in
-    let h2 = no_limit _ 2 _ h1.1 in
-    let h3 = no_limit _ 3 _ h2.1 in
-    let h4 = no_limit _ 4 _ h3.1 in
-    let h5 = no_limit _ 5 _ h4.1 in
-    let h6 = no_limit _ 6 _ h5.1 in
+    let h1 = no_limit _ limit.Classes _ e in
+    let h2 = no_limit _ limit.Relationships _ h1.1 in
+    let h3 = no_limit _ limit.Fields _ h2.1 in
+    let h4 = no_limit _ limit.Methods _ h3.1 in
+    let h5 = no_limit _ limit.Variables _ h4.1 in
+    let h6 = no_limit _ limit.Nodes _ h5.1 in
     let n = listed_in 2048 l.nodes h6.0 in
     let s = g.tracks.same (record { classes = listed_in 31 l.classes h1.0; relationships = listed_in 31 l.relationships h2.0; fields = listed_in 128 l.fields h3.0; methods = listed_in 64 l.methods h4.0; nodes = n; count = omega arith; most = in_limit 12 (crowd 0 t) h5.0 }) in
     λ i. record {

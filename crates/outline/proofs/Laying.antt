@@ -1,5 +1,5 @@
 -- The events of a tree lay it out.
-use Rattle.std.proofs.Common.{◌≡◌, ℕ, suc, ◌+◌, max, true, false, cond, List, [], ◌∷◌, ◌++◌, sym, refl, ap, ◌∙◌, add-zero, arith}
+use Rattle.std.proofs.Common.{◌≡◌, ℕ, suc, ◌+◌, max, true, false, cond, List, [], ◌∷◌, ◌++◌, Some, None, sym, refl, ap, ◌∙◌, add-zero, arith}
 use Rattle.grammar.specs.declared.event.Event.{Event}
 use Rattle.grammar.specs.declared.event.Event.TheVariants as event
 use Rattle.grammar.specs.Events.{events, fed, first_item, first_atom, type_of}
@@ -178,7 +178,7 @@ mutual
       (by (state_done (laid 0 (act a q) l) s h (height 0 a) (next (laid 0 a l)) x v w))
   stmt_laid (branch i o e c b ss f g j us k q) p h l s x v w =
       let e' = laid 0 e l in
-      let b' = add_node shape.Branch 0 i.place (newest e') 0 e' in
+      let b' = add_node shape.Branch i.place (Some (newest e')) None e' in
       let O = opens s (cap h) in
       let K = tall s (cap h) in
       then (expr_laid e 0 l O x K v w)

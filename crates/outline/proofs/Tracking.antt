@@ -13,7 +13,7 @@ use Rattle.outline.specs.declared.entry.Open.{Open}
 use Rattle.outline.specs.declared.builder.Tally.{Tally}
 use Rattle.outline.specs.declared.builder.Builder.{Builder}
 use Rattle.outline.specs.Layout.{Layout, node, block, class_row, relationship_row, field_entry, variable_entry, method_entry, add_class, add_relationship, add_declared, add_method, add_node, add_block, next}
-use Rattle.outline.specs.Drafts.{Draft, draft, taken, leaf, unary, binary, held, to_variable, to_member, heighten, parted, above, top, below, on_top, settled_in, with_opened, assigned, statement, branching, joining, declaring, in_layout, value_shape, doing_shape, side_shape}
+use Rattle.outline.specs.Drafts.{Draft, draft, taken, leaf, unary, binary, held, to_variable, to_member, heighten, parted, target_shape, target_part, above, top, below, on_top, settled_in, with_opened, assigned, statement, branching, joining, declaring, in_layout, value_shape, doing_shape, side_shape}
 use Rattle.outline.specs.Building.{raised, counting, opening, closing, top_of, or_nothing, next_node, last_method, counted, with_node, node_added, block_added, leaf_added, unary_added, binary_added, variable_targeted, assigning, assigned_in, settling, statement_added, branch_added, joined_in, replaced, class_added, relationship_added, field_added, local_added, method_added, declared_in, with_height, settled_at, built}
 use Rattle.outline.proofs.Shown.{Shows, show_length, show_push, show_drop, show_drop_none, show_newest, show_none}
 
@@ -90,10 +90,10 @@ top_is : {b : Builder} {l : Layout} (o : List Open) {k : ℕ} → Same b l o k �
 top_is [] h = ap or_nothing (show_none h.opened)
 top_is (x ∷ o) h = ap or_nothing (show_newest h.opened)
 
-same_node : {b : Builder} {l : Layout} {o : List Open} {k : ℕ} (s : Shape) (n p : ℕ) {x y x' y' : ℕ} → x ≡ x' → y ≡ y' → Same b l o k → length l.nodes < 2048
-    → Same (node_added b s n p x y) (add_node s n p x' y' l) o k
+same_node : {b : Builder} {l : Layout} {o : List Open} {k : ℕ} (s : Shape) (p : ℕ) {x y x' y' : Option ℕ} → x ≡ x' → y ≡ y' → Same b l o k → length l.nodes < 2048
+    → Same (node_added b s p x y) (add_node s p x' y' l) o k
 unfolding add_node
-same_node {b} {l} s n p {x} {y} {x'} {y'} e f h room =
+same_node {b} {l} s p {x} {y} {x'} {y'} e f h room =
     record {
       classes = h.classes;
       relationships = h.relationships;
@@ -102,7 +102,7 @@ same_node {b} {l} s n p {x} {y} {x'} {y'} e f h room =
       variables = h.variables;
       nodes =
           show_push
-          (ap (λ m. node s m n p x y) (last_is h) ∙ ap (λ z. node s (pred (length l.methods)) n p z y) e ∙ ap (λ z. node s (pred (length l.methods)) n p x' z) f)
+          (ap (λ m. node s m p x y) (last_is h) ∙ ap (λ z. node s (pred (length l.methods)) p z y) e ∙ ap (λ z. node s (pred (length l.methods)) p x' z) f)
           h.nodes room;
       blocks = h.blocks;
       opened = h.opened;
@@ -221,52 +221,52 @@ same_settled {b} {l} (x ∷ o) c v w {k} {g} {g'} e h room =
 held_as : {n m g h : ℕ} → n ≡ m → g ≡ h → held n g ≡ held m h
 held_as {n} {m} {g} {h} e f = ap (λ y. held y g) e ∙ ap (λ y. held m y) f
 
-same_leaf : {b : Builder} {l : Layout} {o : List Open} {k : ℕ} (s : Shape) (n p : ℕ) → Same b l o k → length l.nodes < 2048 → length o < 2048
-    → Same (leaf_added b s n p) (add_node s n p 0 0 l) (held (next l) 1 ∷ o) k
-same_leaf s n p h r q = same_counted (same_open (held_as (next_is h) refl) (same_node s n p refl refl h r) q)
+same_leaf : {b : Builder} {l : Layout} {o : List Open} {k : ℕ} (s : Shape) (p : ℕ) → Same b l o k → length l.nodes < 2048 → length o < 2048
+    → Same (leaf_added b s p) (add_node s p None None l) (held (next l) 1 ∷ o) k
+same_leaf s p h r q = same_counted (same_open (held_as (next_is h) refl) (same_node s p refl refl h r) q)
 
-same_unary : {b : Builder} {l : Layout} (o : List Open) {k : ℕ} (s : Shape) (n p : ℕ) → Same b l o k → length l.nodes < 2048 → length (below o) < 2048
-    → Same (unary_added b s n p) (add_node s n p (top o).node 0 l) (held (next l) (above (top o).height) ∷ below o) k
-same_unary o s n p h r q =
+same_unary : {b : Builder} {l : Layout} (o : List Open) {k : ℕ} (s : Shape) (p : ℕ) → Same b l o k → length l.nodes < 2048 → length (below o) < 2048
+    → Same (unary_added b s p) (add_node s p (Some (top o).node) None l) (held (next l) (above (top o).height) ∷ below o) k
+same_unary o s p h r q =
     let e = top_is o h in
-    same_counted (same_open (held_as (next_is h) (ap (λ x. above x.height) e)) (same_node s n p (ap (λ x. x.node) e) refl (same_close o h) r) q)
+    same_counted (same_open (held_as (next_is h) (ap (λ x. above x.height) e)) (same_node s p (ap (λ x. Some x.node) e) refl (same_close o h) r) q)
 
 same_branch : {b : Builder} {l : Layout} (o : List Open) {k : ℕ} (p : ℕ) → Same b l o k → length l.nodes < 2048 → length (below o) < 2048
-    → Same (branch_added b p) (add_node shape.Branch 0 p (top o).node 0 l) (held (next l) (top o).height ∷ below o) k
+    → Same (branch_added b p) (add_node shape.Branch p (Some (top o).node) None l) (held (next l) (top o).height ∷ below o) k
 same_branch o p h r q =
     let e = top_is o h in
-    same_counted (same_open (held_as (next_is h) (ap (λ x. x.height) e)) (same_node shape.Branch 0 p (ap (λ x. x.node) e) refl (same_close o h) r) q)
+    same_counted (same_open (held_as (next_is h) (ap (λ x. x.height) e)) (same_node shape.Branch p (ap (λ x. Some x.node) e) refl (same_close o h) r) q)
 
 higher : {x y x' y' : Open} → x ≡ x' → y ≡ y' → above (max x.height y.height) ≡ above (max x'.height y'.height)
 higher {x} {y} {x'} {y'} e f = ap (λ z. above (max z.height y.height)) e ∙ ap (λ z. above (max x'.height z.height)) f
 
-same_binary : {b : Builder} {l : Layout} (o : List Open) {k : ℕ} (s : Shape) (n p : ℕ) → Same b l o k → length l.nodes < 2048 → length (below (below o)) < 2048
-    → Same (binary_added b s n p) (add_node s n p (top (below o)).node (top o).node l)
+same_binary : {b : Builder} {l : Layout} (o : List Open) {k : ℕ} (s : Shape) (p : ℕ) → Same b l o k → length l.nodes < 2048 → length (below (below o)) < 2048
+    → Same (binary_added b s p) (add_node s p (Some (top (below o)).node) (Some (top o).node) l)
     (held (next l) (above (max (top (below o)).height (top o).height)) ∷ below (below o)) k
-same_binary o s n p h r q =
+same_binary o s p h r q =
     let e = top_is o h in
     let f = top_is (below o) (same_close o h) in
-    same_counted (same_open (held_as (next_is h) (higher f e)) (same_node s n p (ap (λ x. x.node) f) (ap (λ x. x.node) e) (same_close (below o) (same_close o h)) r) q)
+    same_counted (same_open (held_as (next_is h) (higher f e)) (same_node s p (ap (λ x. Some x.node) f) (ap (λ x. Some x.node) e) (same_close (below o) (same_close o h)) r) q)
 
 same_assigning : {b : Builder} {l : Layout} (e : Open) (o : List Open) {k : ℕ} → Same b l (e ∷ o) k → length l.nodes < 2048 → length (below o) < 2048
     → Same (assigning b e)
-    (add_node (cond (top o).member shape.SetMember shape.SetVariable) (top o).name (top o).place (top o).node e.node l)
+    (add_node (target_shape (top o)) (top o).place (target_part (top o)) (Some e.node) l)
     (held (next l) (above (max (top o).height e.height)) ∷ below o) k
 same_assigning {b} {l} e o {k} h r q =
     let f = top_is o (same_close (e ∷ o) h) in
     let P : Open → Type 0 =
-    λ t. Same (opening (node_added (closing (closing b)) (cond t.member shape.SetMember shape.SetVariable) t.name t.place t.node e.node) (held (next_node b) (above (max t.height e.height))))
-    (add_node (cond (top o).member shape.SetMember shape.SetVariable) (top o).name (top o).place (top o).node e.node l)
+    λ t. Same (opening (node_added (closing (closing b)) (target_shape t) t.place (target_part t) (Some e.node)) (held (next_node b) (above (max t.height e.height))))
+    (add_node (target_shape (top o)) (top o).place (target_part (top o)) (Some e.node) l)
     (held (next l) (above (max (top o).height e.height)) ∷ below o) k
     in
     subst P (sym f)
-    (same_open (held_as (next_is h) refl) (same_node (cond (top o).member shape.SetMember shape.SetVariable) (top o).name (top o).place refl refl (same_close o (same_close (e ∷ o) h)) r) q)
+    (same_open (held_as (next_is h) refl) (same_node (target_shape (top o)) (top o).place refl refl (same_close o (same_close (e ∷ o) h)) r) q)
 
 -- Counts and bounds, step by step.
 
-counts_node : {t : Tally} {l : Layout} {c v w : ℕ} (s : Shape) (n p x y : ℕ) → Counts t l c v w → Counts (with_node t) (add_node s n p x y l) (c + 1) v w
+counts_node : {t : Tally} {l : Layout} {c v w : ℕ} (s : Shape) (p : ℕ) (x y : Option ℕ) → Counts t l c v w → Counts (with_node t) (add_node s p x y l) (c + 1) v w
 unfolding add_node
-counts_node {t} {l} {c} s n p x y h =
+counts_node {t} {l} {c} s p x y h =
     record {
       classes = h.classes;
       relationships = h.relationships;
@@ -291,9 +291,9 @@ counts_more {t} {l} {c} h =
       in_method = h.in_method;
     }
 
-counts_assigned : {t : Tally} {l : Layout} {c v w : ℕ} (s : Shape) (n p x y : ℕ) → Counts t l c v w → Counts t (add_node s n p x y l) c v w
+counts_assigned : {t : Tally} {l : Layout} {c v w : ℕ} (s : Shape) (p : ℕ) (x y : Option ℕ) → Counts t l c v w → Counts t (add_node s p x y l) c v w
 unfolding add_node
-counts_assigned s n p x y h =
+counts_assigned s p x y h =
     record {
       classes = h.classes;
       relationships = h.relationships;
@@ -335,19 +335,19 @@ counts_height g h =
 fine_opened : {l : Layout} {o : List Open} {c v w : ℕ} (o' : List Open) (c' : ℕ) → Fine l o c v w → length o' + length l.blocks ≤ c' → Fine l o' c' v w
 fine_opened o' c' h e = record { opened = e; variables = h.variables; newest = h.newest; locals = h.locals }
 
-fine_node : {l : Layout} {o : List Open} {c v w : ℕ} (s : Shape) (n p x y : ℕ) (o' : List Open) (c' : ℕ) → Fine l o c v w → length o' + length l.blocks ≤ c'
-    → Fine (add_node s n p x y l) o' c' v w
+fine_node : {l : Layout} {o : List Open} {c v w : ℕ} (s : Shape) (p : ℕ) (x y : Option ℕ) (o' : List Open) (c' : ℕ) → Fine l o c v w → length o' + length l.blocks ≤ c'
+    → Fine (add_node s p x y l) o' c' v w
 unfolding add_node
-fine_node s n p x y o' c' h e = record { opened = e; variables = h.variables; newest = h.newest; locals = h.locals }
+fine_node s p x y o' c' h e = record { opened = e; variables = h.variables; newest = h.newest; locals = h.locals }
 
 fine_block : {l : Layout} {o : List Open} {c v w : ℕ} (x y z : ℕ) (o' : List Open) → Fine l o c v w → length o' + (length l.blocks + 1) ≤ c
     → Fine (add_block x y z l) o' c v w
 unfolding add_block
 fine_block x y z o' h e = record { opened = omega arith; variables = h.variables; newest = h.newest; locals = h.locals }
 
-shrink_node : {l : Layout} {c c' w : ℕ} (s : Shape) (n p x y : ℕ) → Small (add_node s n p x y l) c' w → c ≤ c' → Small l c w
+shrink_node : {l : Layout} {c c' w : ℕ} (s : Shape) (p : ℕ) (x y : Option ℕ) → Small (add_node s p x y l) c' w → c ≤ c' → Small l c w
 unfolding add_node
-shrink_node s n p x y h e =
+shrink_node s p x y h e =
     record {
       classes = h.classes;
       relationships = h.relationships;
@@ -358,9 +358,9 @@ shrink_node s n p x y h e =
       most = h.most;
     }
 
-room_node : (l : Layout) {c w : ℕ} (s : Shape) (n p x y : ℕ) → Small (add_node s n p x y l) c w → length l.nodes < 2048
+room_node : (l : Layout) {c w : ℕ} (s : Shape) (p : ℕ) (x y : Option ℕ) → Small (add_node s p x y l) c w → length l.nodes < 2048
 unfolding add_node
-room_node l s n p x y h = omega (arith, h.nodes)
+room_node l s p x y h = omega (arith, h.nodes)
 
 shrink_count : {l : Layout} {c c' w : ℕ} → Small l c' w → c ≤ c' → Small l c w
 shrink_count h e =
@@ -389,55 +389,55 @@ shrink_block x y z h =
 
 -- Tracking, event by event.
 
-tracks_leaf : {b : Builder} {d : Draft} (s : Shape) (n p : ℕ) → Tracks b d → Tracks (leaf_added b s n p) (leaf s n p d)
-tracks_leaf {b} {d} s n p t =
+tracks_leaf : {b : Builder} {d : Draft} (s : Shape) (p : ℕ) → Tracks b d → Tracks (leaf_added b s p) (leaf s p d)
+tracks_leaf {b} {d} s p t =
     let few = t.fine.opened in
     record {
-      counts = counts_node s n p 0 0 t.counts;
-      fine = fine_node s n p 0 0 _ _ t.fine (omega arith);
+      counts = counts_node s p None None t.counts;
+      fine = fine_node s p None None _ _ t.fine (omega arith);
       same =
           λ m. let q = m.count in
-          same_leaf s n p (t.same (shrink_node s n p 0 0 m (omega arith))) (room_node d.layout s n p 0 0 m) (omega arith);
+          same_leaf s p (t.same (shrink_node s p None None m (omega arith))) (room_node d.layout s p None None m) (omega arith);
     }
 
-tracks_unary : {b : Builder} {d : Draft} (s : Shape) (n p : ℕ) → Tracks b d → Tracks (unary_added b s n p) (unary s n p d)
-tracks_unary {b} {d} s n p t =
+tracks_unary : {b : Builder} {d : Draft} (s : Shape) (p : ℕ) → Tracks b d → Tracks (unary_added b s p) (unary s p d)
+tracks_unary {b} {d} s p t =
     let few = t.fine.opened in
     let less = below_less d.opened in
     record {
-      counts = counts_node s n p (top d.opened).node 0 t.counts;
-      fine = fine_node s n p (top d.opened).node 0 _ _ t.fine (omega arith);
+      counts = counts_node s p (Some (top d.opened).node) None t.counts;
+      fine = fine_node s p (Some (top d.opened).node) None _ _ t.fine (omega arith);
       same =
           λ m. let q = m.count in
-          same_unary d.opened s n p (t.same (shrink_node s n p (top d.opened).node 0 m (omega arith))) (room_node d.layout s n p (top d.opened).node 0 m) (omega arith);
+          same_unary d.opened s p (t.same (shrink_node s p (Some (top d.opened).node) None m (omega arith))) (room_node d.layout s p (Some (top d.opened).node) None m) (omega arith);
     }
 
-tracks_binary : {b : Builder} {d : Draft} (s : Shape) (n p : ℕ) → Tracks b d → Tracks (binary_added b s n p) (binary s n p d)
-tracks_binary {b} {d} s n p t =
+tracks_binary : {b : Builder} {d : Draft} (s : Shape) (p : ℕ) → Tracks b d → Tracks (binary_added b s p) (binary s p d)
+tracks_binary {b} {d} s p t =
     let few = t.fine.opened in
     let less = below_less d.opened in
     let lesser = below_less (below d.opened) in
-    let x = (top (below d.opened)).node in
-    let y = (top d.opened).node in
+    let x = Some (top (below d.opened)).node in
+    let y = Some (top d.opened).node in
     record {
-      counts = counts_node s n p x y t.counts;
-      fine = fine_node s n p x y _ _ t.fine (omega arith);
+      counts = counts_node s p x y t.counts;
+      fine = fine_node s p x y _ _ t.fine (omega arith);
       same =
           λ m. let q = m.count in
-          same_binary d.opened s n p (t.same (shrink_node s n p x y m (omega arith))) (room_node d.layout s n p x y m) (omega arith);
+          same_binary d.opened s p (t.same (shrink_node s p x y m (omega arith))) (room_node d.layout s p x y m) (omega arith);
     }
 
 tracks_branch : {b : Builder} {d : Draft} (p : ℕ) → Tracks b d → Tracks (branch_added b p) (branching p d)
 tracks_branch {b} {d} p t =
     let few = t.fine.opened in
     let less = below_less d.opened in
-    let x = (top d.opened).node in
+    let x = Some (top d.opened).node in
     record {
-      counts = counts_node shape.Branch 0 p x 0 t.counts;
-      fine = fine_node shape.Branch 0 p x 0 _ _ t.fine (omega arith);
+      counts = counts_node shape.Branch p x None t.counts;
+      fine = fine_node shape.Branch p x None _ _ t.fine (omega arith);
       same =
           λ m. let q = m.count in
-          same_branch d.opened p (t.same (shrink_node shape.Branch 0 p x 0 m (omega arith))) (room_node d.layout shape.Branch 0 p x 0 m) (omega arith);
+          same_branch d.opened p (t.same (shrink_node shape.Branch p x None m (omega arith))) (room_node d.layout shape.Branch p x None m) (omega arith);
     }
 
 replaced_counts : (b : Builder) {l : Layout} {c v w : ℕ} (o : Option Open) (f : Open → Open) → Counts b.tally l c v w → Counts (replaced o f b).tally l c v w
@@ -476,9 +476,9 @@ tracks_to_variable {b} {d} p t =
 assigned_counts : (b : Builder) (d : Draft) (x : Option Open) (o : List Open) → Counts b.tally d.layout d.count d.locals d.most
     → Counts (assigned_in x b).tally (assigned o d).layout (assigned o d).count (assigned o d).locals (assigned o d).most
 assigned_counts b d None [] h = h
-assigned_counts b d None (e ∷ o) h = counts_assigned _ _ _ _ _ h
+assigned_counts b d None (e ∷ o) h = counts_assigned _ _ _ _ h
 assigned_counts b d (Some x) [] h = h
-assigned_counts b d (Some x) (e ∷ o) h = counts_assigned _ _ _ _ _ h
+assigned_counts b d (Some x) (e ∷ o) h = counts_assigned _ _ _ _ h
 
 tracks_assigned : {b : Builder} (o : List Open) (l : Layout) (c k v w : ℕ) → Tracks b (draft l o c k v w)
     → Tracks (assigned_in (newest (listed b.opened)) b) (assigned o (draft l o c k v w))
@@ -491,18 +491,19 @@ tracks_assigned {b} [] l c k v w t =
 tracks_assigned {b} (e ∷ o) l c k v w t =
     let few = t.fine.opened in
     let less = below_less o in
-    let s = cond (top o).member shape.SetMember shape.SetVariable in
     let x = top o in
+    let s = target_shape x in
+    let y = target_part x in
     record {
       counts = assigned_counts b (draft l (e ∷ o) c k v w) (newest (listed b.opened)) (e ∷ o) t.counts;
-      fine = fine_node s x.name x.place x.node e.node _ _ t.fine (omega arith);
+      fine = fine_node s x.place y (Some e.node) _ _ t.fine (omega arith);
       same =
           λ m. let q = m.count in
-          let h = t.same (shrink_node s x.name x.place x.node e.node m (omega arith)) in
-          let L = add_node s x.name x.place x.node e.node l in
+          let h = t.same (shrink_node s x.place y (Some e.node) m (omega arith)) in
+          let L = add_node s x.place y (Some e.node) l in
           let O = held (next l) (above (max x.height e.height)) ∷ below o in
-          let P : Option Open → Type 0 = λ y. Same (assigned_in y b) L O k in
-          subst P (sym (show_newest h.opened)) (same_assigning e o h (room_node l s x.name x.place x.node e.node m) (omega arith));
+          let P : Option Open → Type 0 = λ z. Same (assigned_in z b) L O k in
+          subst P (sym (show_newest h.opened)) (same_assigning e o h (room_node l s x.place y (Some e.node) m) (omega arith));
     }
 
 settled_counts : (b : Builder) {l : Layout} {c v w : ℕ} (x : Option Open) (g : ℕ) → Counts b.tally l c v w → Counts (settled_at x g b).tally l c v w
@@ -529,14 +530,14 @@ tracks_statement : {b : Builder} {d : Draft} (s : Shape) (p : ℕ) → Tracks b 
 tracks_statement {b} {d} s p t =
     let few = t.fine.opened in
     let less = below_less d.opened in
-    let x = (top d.opened).node in
-    tracks_settled (below d.opened) (add_node s 0 p x 0 d.layout) (d.count + 1) d.tallest d.locals d.most (above (top_of b).height) (above (top d.opened).height)
-    (counts_node s 0 p x 0 t.counts)
-    (fine_node s 0 p x 0 _ _ t.fine (omega arith))
+    let x = Some (top d.opened).node in
+    tracks_settled (below d.opened) (add_node s p x None d.layout) (d.count + 1) d.tallest d.locals d.most (above (top_of b).height) (above (top d.opened).height)
+    (counts_node s p x None t.counts)
+    (fine_node s p x None _ _ t.fine (omega arith))
     (λ m. let q = m.count in
-    let h = t.same (shrink_node s 0 p x 0 m (omega arith)) in
+    let h = t.same (shrink_node s p x None m (omega arith)) in
     let e = top_is d.opened h in
-    (ap (λ y. above y.height) e, same_counted (same_node s 0 p (ap (λ y. y.node) e) refl (same_close d.opened h) (room_node d.layout s 0 p x 0 m))))
+    (ap (λ y. above y.height) e, same_counted (same_node s p (ap (λ y. Some y.node) e) refl (same_close d.opened h) (room_node d.layout s p x None m))))
 
 joined_counts : (b : Builder) {l : Layout} {c v w : ℕ} (x : Option Open) → Counts b.tally l c v w → Counts (joined_in x b).tally l c v w
 joined_counts b None h = h
@@ -816,16 +817,16 @@ tracks_event (event.Class n p) t = tracks_class n p t
 tracks_event (event.Relationship n p x y) t = tracks_relationship n p x y t
 tracks_event {b} (event.Declared u n) t = tracks_declared b.tally.in_method u n (sym t.counts.in_method) t
 tracks_event (event.Method r n u p) t = tracks_method r n u p t
-tracks_event (event.Variable p) t = tracks_leaf shape.Variable p p t
-tracks_event (event.Literal v p) t = tracks_leaf (value_shape v) 0 p t
-tracks_event (event.New n p) t = tracks_leaf shape.New n p t
-tracks_event (event.Pair x p) t = tracks_binary (doing_shape x) p p t
-tracks_event (event.Member n p) t = tracks_unary shape.Member n p t
-tracks_event (event.Call n p) t = tracks_binary shape.Call n p t
-tracks_event (event.Instances n p) t = tracks_unary shape.Instances n p t
-tracks_event (event.End e p) t = tracks_unary (side_shape e) 0 p t
+tracks_event (event.Variable p) t = tracks_leaf (shape.Variable p) p t
+tracks_event (event.Literal v p) t = tracks_leaf (value_shape v) p t
+tracks_event (event.New n p) t = tracks_leaf (shape.New n) p t
+tracks_event (event.Pair x p) t = tracks_binary (doing_shape x p) p t
+tracks_event (event.Member n p) t = tracks_unary (shape.Member n) p t
+tracks_event (event.Call n p) t = tracks_binary (shape.Call n) p t
+tracks_event (event.Instances n p) t = tracks_unary (shape.Instances n) p t
+tracks_event (event.End e p) t = tracks_unary (side_shape e) p t
 tracks_event event.Bracket t = tracks_replaced (λ x. heighten (above x.height) x) (λ x. heighten (above x.height) x) t (λ m x. refl)
-tracks_event (event.Equal p) t = tracks_binary shape.Equal 0 p t
+tracks_event (event.Equal p) t = tracks_binary shape.Equal p t
 tracks_event (event.ToVariable p) t = tracks_to_variable p t
 tracks_event (event.ToMember n p) t = tracks_more (tracks_replaced (to_member n p) (to_member n p) t (λ m x. refl))
 tracks_event {l = l} {o} {c} {k} {v} {w} event.Assigned t = tracks_assigned o l c k v w t

@@ -11,7 +11,7 @@ use Rattle.outline.specs.declared.contents.Outline.{Outline}
 use Rattle.outline.specs.declared.builder.Tally.{Tally}
 use Rattle.outline.specs.declared.builder.Builder.{Builder}
 use Rattle.outline.specs.Layout.{row_entry, class_row, relationship_row, field_entry, variable_entry, method_entry, node, block}
-use Rattle.outline.specs.Drafts.{held, to_variable, to_member, heighten, parted, above, value_shape, doing_shape, side_shape}
+use Rattle.outline.specs.Drafts.{held, to_variable, to_member, heighten, parted, target_shape, target_part, above, value_shape, doing_shape, side_shape}
 
 -- one more, but no further than one above the limit
 abbrev pub raised : ℕ → ℕ → ℕ
@@ -225,8 +225,8 @@ method_added b r n t p =
       tally = with_method b.tally;
     }
 
-abbrev pub node_added : Builder → Shape → ℕ → ℕ → ℕ → ℕ → Builder
-node_added b s n p x y =
+abbrev pub node_added : Builder → Shape → ℕ → Option ℕ → Option ℕ → Builder
+node_added b s p x y =
     record {
       outline =
           record {
@@ -235,7 +235,7 @@ node_added b s n p x y =
             fields = b.outline.fields;
             methods = b.outline.methods;
             variables = b.outline.variables;
-            nodes = pushed b.outline.nodes (node s (last_method b.outline) n p x y);
+            nodes = pushed b.outline.nodes (node s (last_method b.outline) p x y);
             blocks = b.outline.blocks;
           };
       opened = b.opened;
@@ -272,16 +272,16 @@ top_of b = or_nothing (newest (listed b.opened))
 abbrev pub counted : Builder → Builder
 counted b = counting (with_node b.tally) b
 
-abbrev pub leaf_added : Builder → Shape → ℕ → ℕ → Builder
-leaf_added b s n p = counted (opening (node_added b s n p 0 0) (held (next_node b) 1))
+abbrev pub leaf_added : Builder → Shape → ℕ → Builder
+leaf_added b s p = counted (opening (node_added b s p None None) (held (next_node b) 1))
 
-abbrev pub unary_added : Builder → Shape → ℕ → ℕ → Builder
-unary_added b s n p =
-    counted (opening (node_added (closing b) s n p (top_of b).node 0) (held (next_node b) (above (top_of b).height)))
+abbrev pub unary_added : Builder → Shape → ℕ → Builder
+unary_added b s p =
+    counted (opening (node_added (closing b) s p (Some (top_of b).node) None) (held (next_node b) (above (top_of b).height)))
 
-abbrev pub binary_added : Builder → Shape → ℕ → ℕ → Builder
-binary_added b s n p =
-    counted (opening (node_added (closing (closing b)) s n p (top_of (closing b)).node (top_of b).node)
+abbrev pub binary_added : Builder → Shape → ℕ → Builder
+binary_added b s p =
+    counted (opening (node_added (closing (closing b)) s p (Some (top_of (closing b)).node) (Some (top_of b).node))
     (held (next_node b) (above (max (top_of (closing b)).height (top_of b).height))))
 
 -- the topmost is replaced, if there is one
@@ -300,8 +300,8 @@ member_targeted b n p = counted (replaced (newest (listed b.opened)) (to_member 
 
 abbrev pub assigning : Builder → Open → Builder
 assigning b e =
-    opening (node_added (closing (closing b)) (cond (top_of (closing b)).member shape.SetMember shape.SetVariable) (top_of (closing b)).name
-    (top_of (closing b)).place (top_of (closing b)).node e.node)
+    opening (node_added (closing (closing b)) (target_shape (top_of (closing b))) (top_of (closing b)).place
+    (target_part (top_of (closing b))) (Some e.node))
     (held (next_node b) (above (max (top_of (closing b)).height e.height)))
 
 abbrev pub assigned_in : Option Open → Builder → Builder
@@ -316,11 +316,11 @@ abbrev pub settling : Builder → ℕ → Builder
 settling b h = settled_at (newest (listed b.opened)) h b
 
 abbrev pub statement_added : Builder → Shape → ℕ → Builder
-statement_added b s p = settling (counted (node_added (closing b) s 0 p (top_of b).node 0)) (above (top_of b).height)
+statement_added b s p = settling (counted (node_added (closing b) s p (Some (top_of b).node) None)) (above (top_of b).height)
 
 abbrev pub branch_added : Builder → ℕ → Builder
 branch_added b p =
-    counted (opening (node_added (closing b) shape.Branch 0 p (top_of b).node 0) (held (next_node b) (top_of b).height))
+    counted (opening (node_added (closing b) shape.Branch p (Some (top_of b).node) None) (held (next_node b) (top_of b).height))
 
 abbrev pub parting : Builder → Builder
 parting b = replaced (newest (listed b.opened)) (parted (next_node b)) b
@@ -338,16 +338,16 @@ built b (event.Class n p) = class_added b n p
 built b (event.Relationship n p x y) = relationship_added b n p x y
 built b (event.Declared t n) = declared_in b.tally.in_method b t n
 built b (event.Method r n t p) = method_added b r n t p
-built b (event.Variable p) = leaf_added b shape.Variable p p
-built b (event.Literal v p) = leaf_added b (value_shape v) 0 p
-built b (event.New n p) = leaf_added b shape.New n p
-built b (event.Pair x p) = binary_added b (doing_shape x) p p
-built b (event.Member n p) = unary_added b shape.Member n p
-built b (event.Call n p) = binary_added b shape.Call n p
-built b (event.Instances n p) = unary_added b shape.Instances n p
-built b (event.End e p) = unary_added b (side_shape e) 0 p
+built b (event.Variable p) = leaf_added b (shape.Variable p) p
+built b (event.Literal v p) = leaf_added b (value_shape v) p
+built b (event.New n p) = leaf_added b (shape.New n) p
+built b (event.Pair x p) = binary_added b (doing_shape x p) p
+built b (event.Member n p) = unary_added b (shape.Member n) p
+built b (event.Call n p) = binary_added b (shape.Call n) p
+built b (event.Instances n p) = unary_added b (shape.Instances n) p
+built b (event.End e p) = unary_added b (side_shape e) p
 built b event.Bracket = bracketed b
-built b (event.Equal p) = binary_added b shape.Equal 0 p
+built b (event.Equal p) = binary_added b shape.Equal p
 built b (event.ToVariable p) = variable_targeted b p
 built b (event.ToMember n p) = member_targeted b n p
 built b event.Assigned = assigned_in (newest (listed b.opened)) b

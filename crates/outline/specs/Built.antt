@@ -1,8 +1,10 @@
 -- The builder before the first event, and the limits that its counts pass.
-use Rattle.std.specs.Prelude.{◌≡◌, ℕ, false, [], None, Option, nat_lt}
+use Rattle.std.specs.Prelude.{◌≡◌, false, [], None, Option, nat_lt}
 use Rattle.tables.specs.Listed.{listed}
 use Rattle.outline.specs.declared.builder.Tally.{Tally}
 use Rattle.outline.specs.declared.builder.Builder.{Builder}
+use Rattle.outline.specs.declared.limit.Limit.{Limit}
+use Rattle.outline.specs.declared.limit.Limit.TheVariants as limit
 use Rattle.outline.specs.Layout.{class_row}
 use Rattle.outline.specs.Limits.{passed}
 
@@ -32,12 +34,12 @@ pub record Empty (b : Builder) : Type 0 where
   pub opened : listed b.opened ≡ []
   pub tally : b.tally ≡ nought
 
-abbrev pub limit_of : Tally → Option ℕ
+abbrev pub limit_of : Tally → Option Limit
 limit_of t =
-    passed (nat_lt 31 t.classes) 1
-    (passed (nat_lt 31 t.relationships) 2
-    (passed (nat_lt 128 t.fields) 3
-    (passed (nat_lt 64 t.methods) 4
-    (passed (nat_lt 12 t.most) 5
-    (passed (nat_lt 2048 t.nodes) 6
-    (passed (nat_lt 16 t.tallest) 7 None))))))
+    passed (nat_lt 31 t.classes) limit.Classes
+    (passed (nat_lt 31 t.relationships) limit.Relationships
+    (passed (nat_lt 128 t.fields) limit.Fields
+    (passed (nat_lt 64 t.methods) limit.Methods
+    (passed (nat_lt 12 t.most) limit.Variables
+    (passed (nat_lt 2048 t.nodes) limit.Nodes
+    (passed (nat_lt 16 t.tallest) limit.Height None))))))

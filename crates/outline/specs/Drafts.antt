@@ -1,5 +1,5 @@
 -- A program's tables while its events come in.
-use Rattle.std.specs.Prelude.{ℕ, ◌+◌, min, max, true, false, cond, List, [], ◌∷◌}
+use Rattle.std.specs.Prelude.{ℕ, ◌+◌, min, max, true, false, cond, List, [], ◌∷◌, Some, None, Option}
 use Rattle.grammar.specs.declared.event.Literal.{Literal}
 use Rattle.grammar.specs.declared.event.Literal.TheVariants as value
 use Rattle.grammar.specs.declared.event.Pairing.{Pairing}
@@ -61,29 +61,36 @@ on_top f [] = []
 on_top f (x ∷ xs) = f x ∷ xs
 
 -- a node without parts
-abbrev pub leaf : Shape → ℕ → ℕ → Draft → Draft
-leaf s n p d = draft (add_node s n p 0 0 d.layout) (held (next d.layout) 1 ∷ d.opened) (d.count + 1) d.tallest d.locals d.most
+abbrev pub leaf : Shape → ℕ → Draft → Draft
+leaf s p d = draft (add_node s p None None d.layout) (held (next d.layout) 1 ∷ d.opened) (d.count + 1) d.tallest d.locals d.most
 
 -- a node with one part
-abbrev pub unary : Shape → ℕ → ℕ → Draft → Draft
-unary s n p d =
-    draft (add_node s n p (top d.opened).node 0 d.layout) (held (next d.layout) (above (top d.opened).height) ∷ below d.opened) (d.count + 1)
+abbrev pub unary : Shape → ℕ → Draft → Draft
+unary s p d =
+    draft (add_node s p (Some (top d.opened).node) None d.layout) (held (next d.layout) (above (top d.opened).height) ∷ below d.opened) (d.count + 1)
     d.tallest d.locals d.most
 
 -- a node with two parts
-abbrev pub binary : Shape → ℕ → ℕ → Draft → Draft
-binary s n p d =
-    draft (add_node s n p (top (below d.opened)).node (top d.opened).node d.layout)
+abbrev pub binary : Shape → ℕ → Draft → Draft
+binary s p d =
+    draft (add_node s p (Some (top (below d.opened)).node) (Some (top d.opened).node) d.layout)
     (held (next d.layout) (above (max (top (below d.opened)).height (top d.opened).height)) ∷ below (below d.opened)) (d.count + 1)
     d.tallest d.locals d.most
 
 abbrev pub with_opened : List Open → ℕ → Draft → Draft
 with_opened o c d = draft d.layout o c d.tallest d.locals d.most
 
+-- the shape of an assignment to a target, and its part
+abbrev pub target_shape : Open → Shape
+target_shape t = cond t.member (shape.SetMember t.name) (shape.SetVariable t.name)
+
+abbrev pub target_part : Open → Option ℕ
+target_part t = cond t.member (Some t.node) None
+
 -- the value of an assignment is complete
 abbrev pub assignment : Open → Open → List Open → Draft → Draft
 assignment e t o d =
-    draft (add_node (cond t.member shape.SetMember shape.SetVariable) t.name t.place t.node e.node d.layout)
+    draft (add_node (target_shape t) t.place (target_part t) (Some e.node) d.layout)
     (held (next d.layout) (above (max t.height e.height)) ∷ o) d.count d.tallest d.locals d.most
 
 abbrev pub assigned : List Open → Draft → Draft
@@ -99,12 +106,12 @@ settled_in (x ∷ o) h d = with_opened (heighten (max x.height h) x ∷ o) d.cou
 abbrev pub statement : Shape → ℕ → Draft → Draft
 statement s p d =
     settled_in (below d.opened) (above (top d.opened).height)
-    (draft (add_node s 0 p (top d.opened).node 0 d.layout) (below d.opened) (d.count + 1) d.tallest d.locals d.most)
+    (draft (add_node s p (Some (top d.opened).node) None d.layout) (below d.opened) (d.count + 1) d.tallest d.locals d.most)
 
 -- a branch, its condition complete
 abbrev pub branching : ℕ → Draft → Draft
 branching p d =
-    draft (add_node shape.Branch 0 p (top d.opened).node 0 d.layout) (held (next d.layout) (top d.opened).height ∷ below d.opened)
+    draft (add_node shape.Branch p (Some (top d.opened).node) None d.layout) (held (next d.layout) (top d.opened).height ∷ below d.opened)
     (d.count + 1) d.tallest d.locals d.most
 
 -- the second block of a branch is complete
@@ -128,9 +135,9 @@ value_shape value.False = shape.False
 value_shape value.Null = shape.Null
 value_shape value.This = shape.This
 
-abbrev pub doing_shape : Pairing → Shape
-doing_shape doing.Add = shape.Add
-doing_shape doing.Rem = shape.Rem
+abbrev pub doing_shape : Pairing → ℕ → Shape
+doing_shape doing.Add n = shape.Add n
+doing_shape doing.Rem n = shape.Rem n
 
 abbrev pub side_shape : End → Shape
 side_shape side.From = shape.From
@@ -142,16 +149,16 @@ taken d (event.Class n p) = in_layout (add_class n p d.layout) d
 taken d (event.Relationship n p a b) = in_layout (add_relationship n p a b d.layout) d
 taken d (event.Declared t n) = declaring t n d
 taken d (event.Method r n t p) = draft (add_method r n t p d.layout) d.opened d.count d.tallest 2 (max d.most 2)
-taken d (event.Variable p) = leaf shape.Variable p p d
-taken d (event.Literal v p) = leaf (value_shape v) 0 p d
-taken d (event.New n p) = leaf shape.New n p d
-taken d (event.Pair x p) = binary (doing_shape x) p p d
-taken d (event.Member n p) = unary shape.Member n p d
-taken d (event.Call n p) = binary shape.Call n p d
-taken d (event.Instances n p) = unary shape.Instances n p d
-taken d (event.End e p) = unary (side_shape e) 0 p d
+taken d (event.Variable p) = leaf (shape.Variable p) p d
+taken d (event.Literal v p) = leaf (value_shape v) p d
+taken d (event.New n p) = leaf (shape.New n) p d
+taken d (event.Pair x p) = binary (doing_shape x p) p d
+taken d (event.Member n p) = unary (shape.Member n) p d
+taken d (event.Call n p) = binary (shape.Call n) p d
+taken d (event.Instances n p) = unary (shape.Instances n) p d
+taken d (event.End e p) = unary (side_shape e) p d
 taken d event.Bracket = with_opened (on_top (λ x. heighten (above x.height) x) d.opened) d.count d
-taken d (event.Equal p) = binary shape.Equal 0 p d
+taken d (event.Equal p) = binary shape.Equal p d
 taken d (event.ToVariable p) = with_opened (to_variable p ∷ d.opened) (d.count + 1) d
 taken d (event.ToMember n p) = with_opened (on_top (to_member n p) d.opened) (d.count + 1) d
 taken d event.Assigned = assigned d.opened d

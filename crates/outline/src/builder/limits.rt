@@ -3,7 +3,7 @@ ghost use Rattle.outline.specs.Built.{Empty, limit_of};
 
 use super::{Builder, Tally};
 use crate::contents::Outline;
-use crate::entry::Open;
+use crate::limit::Limit;
 use tables::table::Table;
 use values::types::CellRow;
 
@@ -38,25 +38,25 @@ impl Builder {
         }
     }
 
-    // The first limit that is passed, by its number.
-    pub(crate) fn limit(&self) -> Option<u8>
+    // The first limit that is passed.
+    pub(crate) fn limit(&self) -> Option<Limit>
         ensures { result ≡ limit_of self.now.tally }
     {
         let tally = self.tally;
         if tally.classes > 31 {
-            Some(1)
+            Some(Limit::Classes)
         } else if tally.relationships > 31 {
-            Some(2)
+            Some(Limit::Relationships)
         } else if tally.fields > 128 {
-            Some(3)
+            Some(Limit::Fields)
         } else if tally.methods > 64 {
-            Some(4)
+            Some(Limit::Methods)
         } else if tally.most > 12 {
-            Some(5)
+            Some(Limit::Variables)
         } else if tally.nodes > 2048 {
-            Some(6)
+            Some(Limit::Nodes)
         } else if tally.tallest > 16 {
-            Some(7)
+            Some(Limit::Height)
         } else {
             None
         }

@@ -7,14 +7,13 @@ use super::opening::above;
 use crate::entry::{Block, Node, Open, Shape};
 
 impl Builder {
-    fn node(&mut self, shape: Shape, name: usize, place: usize, left: usize, right: usize)
-        ensures { self.new ≡ node_added self.old shape name place left right }
+    fn node(&mut self, shape: Shape, place: usize, left: Option<usize>, right: Option<usize>)
+        ensures { self.new ≡ node_added self.old shape place left right }
     {
         let method = self.last_method();
         self.outline.nodes.push(Node {
             shape,
             method,
-            name,
             place,
             left,
             right,
@@ -22,37 +21,37 @@ impl Builder {
     }
 
     // A node without parts.
-    pub(crate) fn leaf(&mut self, shape: Shape, name: usize, place: usize)
-        ensures { self.new ≡ leaf_added self.old shape name place }
+    pub(crate) fn leaf(&mut self, shape: Shape, place: usize)
+        ensures { self.new ≡ leaf_added self.old shape place }
     {
         let node = self.next_node();
-        self.node(shape, name, place, 0, 0);
+        self.node(shape, place, None, None);
         self.open(Open::held(node, 1));
         self.count();
     }
 
     // A node with one part.
-    pub(crate) fn unary(&mut self, shape: Shape, name: usize, place: usize)
-        ensures { self.new ≡ unary_added self.old shape name place }
+    pub(crate) fn unary(&mut self, shape: Shape, place: usize)
+        ensures { self.new ≡ unary_added self.old shape place }
     {
         let node = self.next_node();
         let part = self.top();
         self.close();
-        self.node(shape, name, place, part.node, 0);
+        self.node(shape, place, Some(part.node), None);
         self.open(Open::held(node, above(part.height)));
         self.count();
     }
 
     // A node with two parts.
-    pub(crate) fn binary(&mut self, shape: Shape, name: usize, place: usize)
-        ensures { self.new ≡ binary_added self.old shape name place }
+    pub(crate) fn binary(&mut self, shape: Shape, place: usize)
+        ensures { self.new ≡ binary_added self.old shape place }
     {
         let node = self.next_node();
         let right = self.top();
         self.close();
         let left = self.top();
         self.close();
-        self.node(shape, name, place, left.node, right.node);
+        self.node(shape, place, Some(left.node), Some(right.node));
         self.open(Open::held(node, above(left.height.max(right.height))));
         self.count();
     }
@@ -105,12 +104,12 @@ impl Builder {
         self.close();
         let target = self.top();
         self.close();
-        let shape = if target.member {
-            Shape::SetMember
+        let (shape, part) = if target.member {
+            (Shape::SetMember(target.name), Some(target.node))
         } else {
-            Shape::SetVariable
+            (Shape::SetVariable(target.name), None)
         };
-        self.node(shape, target.name, target.place, target.node, value.node);
+        self.node(shape, target.place, part, Some(value.node));
         self.open(Open::held(node, above(target.height.max(value.height))));
     }
 
@@ -129,7 +128,7 @@ impl Builder {
     {
         let part = self.top();
         self.close();
-        self.node(shape, 0, place, part.node, 0);
+        self.node(shape, place, Some(part.node), None);
         self.count();
         self.settle(above(part.height));
     }
@@ -141,7 +140,7 @@ impl Builder {
         let node = self.next_node();
         let condition = self.top();
         self.close();
-        self.node(Shape::Branch, 0, place, condition.node, 0);
+        self.node(Shape::Branch, place, Some(condition.node), None);
         self.open(Open::held(node, condition.height));
         self.count();
     }

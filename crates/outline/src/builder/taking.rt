@@ -18,12 +18,12 @@ fn literal_shape(value: Literal) -> Shape
     }
 }
 
-fn pairing_shape(pairing: Pairing) -> Shape
-    ensures { result ≡ doing_shape pairing }
+fn pairing_shape(pairing: Pairing, name: usize) -> Shape
+    ensures { result ≡ doing_shape pairing name }
 {
     match pairing {
-        Pairing::Add => Shape::Add,
-        Pairing::Rem => Shape::Rem,
+        Pairing::Add => Shape::Add(name),
+        Pairing::Rem => Shape::Rem(name),
     }
 }
 
@@ -73,16 +73,16 @@ impl Sink for Builder {
                 typed,
                 parameter,
             } => self.method(result, name, typed, parameter),
-            Event::Variable { place } => self.leaf(Shape::Variable, place, place),
-            Event::Literal { value, place } => self.leaf(literal_shape(value), 0, place),
-            Event::New { class, place } => self.leaf(Shape::New, class, place),
-            Event::Pair { pairing, place } => self.binary(pairing_shape(pairing), place, place),
-            Event::Member { name, place } => self.unary(Shape::Member, name, place),
-            Event::Call { name, place } => self.binary(Shape::Call, name, place),
-            Event::Instances { name, place } => self.unary(Shape::Instances, name, place),
-            Event::End { end, place } => self.unary(end_shape(end), 0, place),
+            Event::Variable { place } => self.leaf(Shape::Variable(place), place),
+            Event::Literal { value, place } => self.leaf(literal_shape(value), place),
+            Event::New { class, place } => self.leaf(Shape::New(class), place),
+            Event::Pair { pairing, place } => self.binary(pairing_shape(pairing, place), place),
+            Event::Member { name, place } => self.unary(Shape::Member(name), place),
+            Event::Call { name, place } => self.binary(Shape::Call(name), place),
+            Event::Instances { name, place } => self.unary(Shape::Instances(name), place),
+            Event::End { end, place } => self.unary(end_shape(end), place),
             Event::Bracket => self.bracket(),
-            Event::Equal { place } => self.binary(Shape::Equal, 0, place),
+            Event::Equal { place } => self.binary(Shape::Equal, place),
             Event::ToVariable { place } => self.to_variable(place),
             Event::ToMember { name, place } => self.to_member(name, place),
             Event::Assigned => self.assigned(),

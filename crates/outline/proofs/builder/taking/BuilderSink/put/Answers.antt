@@ -24,7 +24,7 @@ returns-in-Variable c = c.leaf.ensures ∙ ap (built c.args.self.now) (sym c.in-
 
 pub returns-in-Literal : goal.returns-in-Literal
 unfolding built
-returns-in-Literal c = c.leaf-in-Literal.ensures ∙ ap (λ s. leaf_added c.args.self.now s 0 c.in-Literal.place) c.literal_shape.ensures ∙ ap (built c.args.self.now) (sym c.in-Literal.is)
+returns-in-Literal c = c.leaf-in-Literal.ensures ∙ ap (λ s. leaf_added c.args.self.now s c.in-Literal.place) c.literal_shape.ensures ∙ ap (built c.args.self.now) (sym c.in-Literal.is)
 
 pub returns-in-New : goal.returns-in-New
 unfolding built
@@ -32,7 +32,7 @@ returns-in-New c = c.leaf-in-New.ensures ∙ ap (built c.args.self.now) (sym c.i
 
 pub returns-in-Pair : goal.returns-in-Pair
 unfolding built
-returns-in-Pair c = c.binary.ensures ∙ ap (λ s. binary_added c.args.self.now s c.in-Pair.place c.in-Pair.place) c.pairing_shape.ensures ∙ ap (built c.args.self.now) (sym c.in-Pair.is)
+returns-in-Pair c = c.binary.ensures ∙ ap (λ s. binary_added c.args.self.now s c.in-Pair.place) c.pairing_shape.ensures ∙ ap (built c.args.self.now) (sym c.in-Pair.is)
 
 pub returns-in-Member : goal.returns-in-Member
 unfolding built
@@ -48,7 +48,7 @@ returns-in-Instances c = c.unary-in-Instances.ensures ∙ ap (built c.args.self.
 
 pub returns-in-End : goal.returns-in-End
 unfolding built
-returns-in-End c = c.unary-in-End.ensures ∙ ap (λ s. unary_added c.args.self.now s 0 c.in-End.place) c.end_shape.ensures ∙ ap (built c.args.self.now) (sym c.in-End.is)
+returns-in-End c = c.unary-in-End.ensures ∙ ap (λ s. unary_added c.args.self.now s c.in-End.place) c.end_shape.ensures ∙ ap (built c.args.self.now) (sym c.in-End.is)
 
 pub returns-in-Bracket : goal.returns-in-Bracket
 unfolding built
