@@ -22,11 +22,11 @@ use Rattle.declarations.specs.Rows.{given}
 use Rattle.typing.specs.declared.step.Step.{Step}
 use Rattle.typing.specs.declared.step.Step.TheVariants as step
 use Rattle.typing.specs.declared.step.Ruling.TheVariants as ruling
-use Rattle.typing.specs.HasType.{HasType, InOrder, action_ordered, branch_ordered, return_ordered}
+use Rattle.typing.specs.HasType.{Before, HasType, InOrder, action_ordered, branch_ordered, return_ordered}
 use Rattle.typing.specs.Faults.{has_left, has_right, Ready, AtFault, FirstFault}
 use Rattle.typing.specs.Lookup.{class_named, relationship_named, relationship_of, variable_named, variable_number, field_from, method_from}
 use Rattle.typing.specs.Typing.{Ruled, ruled, ordered, waiting, faulty, type_of_row, set_of_row, comparable, pair_named, this_ruling, variable_ruling, new_ruling, partners_ruling, field_ruling, member_ruling, instances_ruling, from_ruling, to_ruling, compare_ruling, set_variable_ruling, set_field_ruling, set_member_ruling, add_ruling, rem_ruling, call_ruling, is_boolean, branch_ruling, return_ruling, of_shape}
-use Rattle.typing.specs.Passing.{plain_node, node_at, type_of, types_to, ruling_at, type_at, fault_place, untyped}
+use Rattle.typing.specs.Passing.{plain_node, node_at, type_of, part_type, types_to, ruling_at, type_at, fault_place, untyped}
 use Rattle.typing.proofs.Complete.{judged, settled, part_typed, complete, complete_ordered}
 use Rattle.typing.proofs.Judging.{none_later}
 use Rattle.typing.proofs.Sound.{sound}
@@ -231,116 +231,117 @@ return_done d m (Some s) e = (s, refl, result_done d s (slice_get d.methods m) e
 
 -- By shape.
 
-module _ (text : List ℕ) (k : Contents) (d : Declared) (m p : ℕ) (left right : Option Ty) where
-  pub waits_for : (x : Shape) → of_shape text k d x m p left right ≡ waiting → ((has_left x ≡ true) × (left ≡ None)) ⊎ ((has_right x ≡ true) × (right ≡ None))
+module _ (text : List ℕ) (k : Contents) (d : Declared) (m : ℕ) (left right : Option Ty) where
+  pub waits_for : (x : Shape) → of_shape text k d x m left right ≡ waiting → ((has_left x ≡ true) × (left ≡ None)) ⊎ ((has_right x ≡ true) × (right ≡ None))
   unfolding settles
-  waits_for shape.Variable e = not_waits (variable_ruling text k d m p) (variable_settles text k d m p) e
+  waits_for (shape.Variable p) e = not_waits (variable_ruling text k d m p) (variable_settles text k d m p) e
   waits_for shape.True e = absurdly (cc)
   waits_for shape.False e = absurdly (cc)
   waits_for shape.Null e = absurdly (cc)
   waits_for shape.This e = not_waits (this_ruling k m) (this_settles k m) e
-  waits_for shape.New e = not_waits (new_ruling text k p) (new_settles text k p) e
-  waits_for shape.Add e = elim (two_waits left right (add_ruling text k d p) (λ s t. add_settles text k d p s t) e) [ inl a ↦ inl (refl, a) | inr a ↦ inr (refl, a) ]
-  waits_for shape.Rem e = elim (two_waits left right (rem_ruling text k d p) (λ s t. rem_settles text k d p s t) e) [ inl a ↦ inl (refl, a) | inr a ↦ inr (refl, a) ]
-  waits_for shape.Member e = inl (refl, one_waits left (λ s. member_ruling text k d s p) (λ s. member_settles text k d s p) e)
-  waits_for shape.Call e = elim (two_waits left right (λ s t. call_ruling text k d s p t) (λ s t. call_settles text k d s p t) e) [ inl a ↦ inl (refl, a) | inr a ↦ inr (refl, a) ]
-  waits_for shape.Instances e = inl (refl, one_waits left (λ s. instances_ruling text k d s p) (λ s. instances_settles text k d s p) e)
+  waits_for (shape.New p) e = not_waits (new_ruling text k p) (new_settles text k p) e
+  waits_for (shape.Add p) e = elim (two_waits left right (add_ruling text k d p) (λ s t. add_settles text k d p s t) e) [ inl a ↦ inl (refl, a) | inr a ↦ inr (refl, a) ]
+  waits_for (shape.Rem p) e = elim (two_waits left right (rem_ruling text k d p) (λ s t. rem_settles text k d p s t) e) [ inl a ↦ inl (refl, a) | inr a ↦ inr (refl, a) ]
+  waits_for (shape.Member p) e = inl (refl, one_waits left (λ s. member_ruling text k d s p) (λ s. member_settles text k d s p) e)
+  waits_for (shape.Call p) e = elim (two_waits left right (λ s t. call_ruling text k d s p t) (λ s t. call_settles text k d s p t) e) [ inl a ↦ inl (refl, a) | inr a ↦ inr (refl, a) ]
+  waits_for (shape.Instances p) e = inl (refl, one_waits left (λ s. instances_ruling text k d s p) (λ s. instances_settles text k d s p) e)
   waits_for shape.From e = inl (refl, one_waits left (from_ruling d) (from_settles d) e)
   waits_for shape.To e = inl (refl, one_waits left (to_ruling d) (to_settles d) e)
   waits_for shape.Equal e = elim (two_waits left right compare_ruling compare_settles e) [ inl a ↦ inl (refl, a) | inr a ↦ inr (refl, a) ]
-  waits_for shape.SetVariable e = inr (refl, one_waits right (set_variable_ruling text k d m p) (set_variable_settles text k d m p) e)
-  waits_for shape.SetMember e = elim (two_waits left right (λ s t. set_member_ruling text k d s p t) (λ s t. set_member_settles text k d s p t) e) [ inl a ↦ inl (refl, a) | inr a ↦ inr (refl, a) ]
+  waits_for (shape.SetVariable p) e = inr (refl, one_waits right (set_variable_ruling text k d m p) (set_variable_settles text k d m p) e)
+  waits_for (shape.SetMember p) e = elim (two_waits left right (λ s t. set_member_ruling text k d s p t) (λ s t. set_member_settles text k d s p t) e) [ inl a ↦ inl (refl, a) | inr a ↦ inr (refl, a) ]
   waits_for shape.Action e = inl (refl, action_waits left e)
   waits_for shape.Branch e = inl (refl, branch_waits left e)
   waits_for shape.Return e = inl (refl, return_waits d m left e)
 
-  fault_left : (x : Shape) → of_shape text k d x m p left right ≡ faulty → has_left x ≡ true → (s : Ty) × (left ≡ Some s)
-  fault_left shape.Variable e h = absurdly (cc)
+  fault_left : (x : Shape) → of_shape text k d x m left right ≡ faulty → has_left x ≡ true → (s : Ty) × (left ≡ Some s)
+  fault_left (shape.Variable p) e h = absurdly (cc)
   fault_left shape.True e h = absurdly (cc)
   fault_left shape.False e h = absurdly (cc)
   fault_left shape.Null e h = absurdly (cc)
   fault_left shape.This e h = absurdly (cc)
-  fault_left shape.New e h = absurdly (cc)
-  fault_left shape.Add e h = (two_fault left right (add_ruling text k d p) e).0
-  fault_left shape.Rem e h = (two_fault left right (rem_ruling text k d p) e).0
-  fault_left shape.Member e h = one_fault left (λ s. member_ruling text k d s p) e
-  fault_left shape.Call e h = (two_fault left right (λ s t. call_ruling text k d s p t) e).0
-  fault_left shape.Instances e h = one_fault left (λ s. instances_ruling text k d s p) e
+  fault_left (shape.New p) e h = absurdly (cc)
+  fault_left (shape.Add p) e h = (two_fault left right (add_ruling text k d p) e).0
+  fault_left (shape.Rem p) e h = (two_fault left right (rem_ruling text k d p) e).0
+  fault_left (shape.Member p) e h = one_fault left (λ s. member_ruling text k d s p) e
+  fault_left (shape.Call p) e h = (two_fault left right (λ s t. call_ruling text k d s p t) e).0
+  fault_left (shape.Instances p) e h = one_fault left (λ s. instances_ruling text k d s p) e
   fault_left shape.From e h = one_fault left (from_ruling d) e
   fault_left shape.To e h = one_fault left (to_ruling d) e
   fault_left shape.Equal e h = (two_fault left right compare_ruling e).0
-  fault_left shape.SetVariable e h = absurdly (cc)
-  fault_left shape.SetMember e h = (two_fault left right (λ s t. set_member_ruling text k d s p t) e).0
+  fault_left (shape.SetVariable p) e h = absurdly (cc)
+  fault_left (shape.SetMember p) e h = (two_fault left right (λ s t. set_member_ruling text k d s p t) e).0
   fault_left shape.Action e h = one_fault left (λ s. ordered step.Drop) e
   fault_left shape.Branch e h = one_fault left branch_ruling e
   fault_left shape.Return e h = one_fault left (return_ruling d m) e
 
-  fault_right : (x : Shape) → of_shape text k d x m p left right ≡ faulty → has_right x ≡ true → (s : Ty) × (right ≡ Some s)
-  fault_right shape.Variable e h = absurdly (cc)
+  fault_right : (x : Shape) → of_shape text k d x m left right ≡ faulty → has_right x ≡ true → (s : Ty) × (right ≡ Some s)
+  fault_right (shape.Variable p) e h = absurdly (cc)
   fault_right shape.True e h = absurdly (cc)
   fault_right shape.False e h = absurdly (cc)
   fault_right shape.Null e h = absurdly (cc)
   fault_right shape.This e h = absurdly (cc)
-  fault_right shape.New e h = absurdly (cc)
-  fault_right shape.Add e h = (two_fault left right (add_ruling text k d p) e).1
-  fault_right shape.Rem e h = (two_fault left right (rem_ruling text k d p) e).1
-  fault_right shape.Member e h = absurdly (cc)
-  fault_right shape.Call e h = (two_fault left right (λ s t. call_ruling text k d s p t) e).1
-  fault_right shape.Instances e h = absurdly (cc)
+  fault_right (shape.New p) e h = absurdly (cc)
+  fault_right (shape.Add p) e h = (two_fault left right (add_ruling text k d p) e).1
+  fault_right (shape.Rem p) e h = (two_fault left right (rem_ruling text k d p) e).1
+  fault_right (shape.Member p) e h = absurdly (cc)
+  fault_right (shape.Call p) e h = (two_fault left right (λ s t. call_ruling text k d s p t) e).1
+  fault_right (shape.Instances p) e h = absurdly (cc)
   fault_right shape.From e h = absurdly (cc)
   fault_right shape.To e h = absurdly (cc)
   fault_right shape.Equal e h = (two_fault left right compare_ruling e).1
-  fault_right shape.SetVariable e h = one_fault right (set_variable_ruling text k d m p) e
-  fault_right shape.SetMember e h = (two_fault left right (λ s t. set_member_ruling text k d s p t) e).1
+  fault_right (shape.SetVariable p) e h = one_fault right (set_variable_ruling text k d m p) e
+  fault_right (shape.SetMember p) e h = (two_fault left right (λ s t. set_member_ruling text k d s p t) e).1
   fault_right shape.Action e h = absurdly (cc)
   fault_right shape.Branch e h = absurdly (cc)
   fault_right shape.Return e h = absurdly (cc)
 
 module _ (text : List ℕ) (k : Contents) (d : Declared) (lines : AreLines d.ancestry) where
   -- a part with a type stands before its node, and has the type
-  ready : (i j : ℕ) (s : Ty) → i < length k.nodes → types_to text k d i j ≡ Some s → (j < i) × HasType text k d j s
-  ready i j s h e =
+  ready : (i : ℕ) (part : Option ℕ) (s : Ty) → i < length k.nodes → part_type (types_to text k d i) part ≡ Some s → (j : ℕ) × Before i part j × HasType text k d j s
+  ready i None s h e = absurdly (cc)
+  ready i (Some j) s h e =
       elim (cases_lt j i) [
-        | inl c ↦ (c, sound text k d lines j s (omega arith) (sym (settled text k d i j c) ∙ e))
+        | inl c ↦ (j, record { is = refl; before = c }, sound text k d lines j s (omega arith) (sym (settled text k d i j c) ∙ e))
         | inr c ↦ let n = none_later text k d i j c in absurdly (cc)
       ]
 
   ordered_by : {z : Step} (i : ℕ) (v : Node) → i < length k.nodes → slice_get k.nodes i ≡ Some v → (x : Shape) → v.shape ≡ x
-      → of_shape text k d x v.method v.name (types_to text k d i v.left) (types_to text k d i v.right) ≡ ordered z → InOrder text k d i
+      → of_shape text k d x v.method (part_type (types_to text k d i) v.left) (part_type (types_to text k d i) v.right) ≡ ordered z → InOrder text k d i
   unfolding settles
-  ordered_by i v h there shape.Variable e q = not_done (variable_ruling text k d v.method v.name) (variable_settles text k d v.method v.name) q
+  ordered_by i v h there (shape.Variable p) e q = not_done (variable_ruling text k d v.method p) (variable_settles text k d v.method p) q
   ordered_by i v h there shape.True e q = absurdly (cc)
   ordered_by i v h there shape.False e q = absurdly (cc)
   ordered_by i v h there shape.Null e q = absurdly (cc)
   ordered_by i v h there shape.This e q = not_done (this_ruling k v.method) (this_settles k v.method) q
-  ordered_by i v h there shape.New e q = not_done (new_ruling text k v.name) (new_settles text k v.name) q
-  ordered_by i v h there shape.Add e q = two_done (types_to text k d i v.left) (types_to text k d i v.right) (add_ruling text k d v.name) (λ s t. add_settles text k d v.name s t) q
-  ordered_by i v h there shape.Rem e q = two_done (types_to text k d i v.left) (types_to text k d i v.right) (rem_ruling text k d v.name) (λ s t. rem_settles text k d v.name s t) q
-  ordered_by i v h there shape.Member e q = one_done (types_to text k d i v.left) (λ s. member_ruling text k d s v.name) (λ s. member_settles text k d s v.name) q
-  ordered_by i v h there shape.Call e q = two_done (types_to text k d i v.left) (types_to text k d i v.right) (λ s t. call_ruling text k d s v.name t) (λ s t. call_settles text k d s v.name t) q
-  ordered_by i v h there shape.Instances e q = one_done (types_to text k d i v.left) (λ s. instances_ruling text k d s v.name) (λ s. instances_settles text k d s v.name) q
-  ordered_by i v h there shape.From e q = one_done (types_to text k d i v.left) (from_ruling d) (from_settles d) q
-  ordered_by i v h there shape.To e q = one_done (types_to text k d i v.left) (to_ruling d) (to_settles d) q
-  ordered_by i v h there shape.Equal e q = two_done (types_to text k d i v.left) (types_to text k d i v.right) compare_ruling compare_settles q
-  ordered_by i v h there shape.SetVariable e q = one_done (types_to text k d i v.right) (set_variable_ruling text k d v.method v.name) (set_variable_settles text k d v.method v.name) q
-  ordered_by i v h there shape.SetMember e q = two_done (types_to text k d i v.left) (types_to text k d i v.right) (λ s t. set_member_ruling text k d s v.name t) (λ s t. set_member_settles text k d s v.name t) q
+  ordered_by i v h there (shape.New p) e q = not_done (new_ruling text k p) (new_settles text k p) q
+  ordered_by i v h there (shape.Add p) e q = two_done (part_type (types_to text k d i) v.left) (part_type (types_to text k d i) v.right) (add_ruling text k d p) (λ s t. add_settles text k d p s t) q
+  ordered_by i v h there (shape.Rem p) e q = two_done (part_type (types_to text k d i) v.left) (part_type (types_to text k d i) v.right) (rem_ruling text k d p) (λ s t. rem_settles text k d p s t) q
+  ordered_by i v h there (shape.Member p) e q = one_done (part_type (types_to text k d i) v.left) (λ s. member_ruling text k d s p) (λ s. member_settles text k d s p) q
+  ordered_by i v h there (shape.Call p) e q = two_done (part_type (types_to text k d i) v.left) (part_type (types_to text k d i) v.right) (λ s t. call_ruling text k d s p t) (λ s t. call_settles text k d s p t) q
+  ordered_by i v h there (shape.Instances p) e q = one_done (part_type (types_to text k d i) v.left) (λ s. instances_ruling text k d s p) (λ s. instances_settles text k d s p) q
+  ordered_by i v h there shape.From e q = one_done (part_type (types_to text k d i) v.left) (from_ruling d) (from_settles d) q
+  ordered_by i v h there shape.To e q = one_done (part_type (types_to text k d i) v.left) (to_ruling d) (to_settles d) q
+  ordered_by i v h there shape.Equal e q = two_done (part_type (types_to text k d i) v.left) (part_type (types_to text k d i) v.right) compare_ruling compare_settles q
+  ordered_by i v h there (shape.SetVariable p) e q = one_done (part_type (types_to text k d i) v.right) (set_variable_ruling text k d v.method p) (set_variable_settles text k d v.method p) q
+  ordered_by i v h there (shape.SetMember p) e q = two_done (part_type (types_to text k d i) v.left) (part_type (types_to text k d i) v.right) (λ s t. set_member_ruling text k d s p t) (λ s t. set_member_settles text k d s p t) q
   ordered_by i v h there shape.Action e q =
-      let a = action_done (types_to text k d i v.left) q in
+      let a = action_done (part_type (types_to text k d i) v.left) q in
       let b = ready i v.left a.0 h a.1 in
-      action_ordered (record { there = there; shaped = e }) b.0 b.1
+      action_ordered (record { there = there; shaped = e }) b.1 b.2
   ordered_by i v h there shape.Branch e q =
-      let a = branch_done (types_to text k d i v.left) q in
+      let a = branch_done (part_type (types_to text k d i) v.left) q in
       let b = ready i v.left a.0 h a.1 in
-      branch_ordered (record { there = there; shaped = e }) b.0 b.1 a.2
+      branch_ordered (record { there = there; shaped = e }) b.1 b.2 a.2
   ordered_by i v h there shape.Return e q =
-      let a = return_done d v.method (types_to text k d i v.left) q in
+      let a = return_done d v.method (part_type (types_to text k d i) v.left) q in
       let b = ready i v.left a.0 h a.1 in
-      return_ordered (record { there = there; shaped = e }) b.0 b.1 a.2.1 ((fits_decides lines a.0 a.2.0.result).0 a.2.2)
+      return_ordered (record { there = there; shaped = e }) b.1 b.2 a.2.1 ((fits_decides lines a.0 a.2.0.result).0 a.2.2)
 
   -- what is judged of node i, and what it shows
 
   pub judged_node : (i : ℕ) (v : Node) → slice_get k.nodes i ≡ Some v
-      → ruling_at text k d i ≡ of_shape text k d v.shape v.method v.name (types_to text k d i v.left) (types_to text k d i v.right)
+      → ruling_at text k d i ≡ of_shape text k d v.shape v.method (part_type (types_to text k d i) v.left) (part_type (types_to text k d i) v.right)
   judged_node i v there = judged text k d (record { there = there; shaped = refl })
 
   pub typed_has : (i : ℕ) (t : Ty) (s : Step) → i < length k.nodes → ruling_at text k d i ≡ ruled t s → HasType text k d i t
@@ -370,13 +371,13 @@ module _ (text : List ℕ) (k : Contents) (d : Declared) (lines : AreLines d.anc
       record {
         there = there;
         left = λ b.
-            let a = fault_left text k d v.method v.name (types_to text k d i v.left) (types_to text k d i v.right) v.shape j b in
+            let a = fault_left text k d v.method (part_type (types_to text k d i) v.left) (part_type (types_to text k d i) v.right) v.shape j b in
             let r = ready i v.left a.0 h a.1 in
-            record { before = r.0; type = a.0; typed = r.1 };
+            record { node = r.0; stands = r.1; type = a.0; typed = r.2 };
         right = λ b.
-            let a = fault_right text k d v.method v.name (types_to text k d i v.left) (types_to text k d i v.right) v.shape j b in
+            let a = fault_right text k d v.method (part_type (types_to text k d i) v.left) (part_type (types_to text k d i) v.right) v.shape j b in
             let r = ready i v.right a.0 h a.1 in
-            record { before = r.0; type = a.0; typed = r.1 };
+            record { node = r.0; stands = r.1; type = a.0; typed = r.2 };
         untyped = λ t x. fault_untyped i t e x;
         unordered = λ x. fault_unordered i e x;
       }
@@ -388,15 +389,15 @@ module _ (text : List ℕ) (k : Contents) (d : Declared) (lines : AreLines d.anc
         | inr h ↦ let n = slice_get_past k.nodes i h in absurdly (cc)
       ]
 
-  part_there : (i j : ℕ) → Ready text k d i j → types_to text k d i j ≡ None → ⊥
-  part_there i j r e = let a = part_typed text k d r.before (complete text k d lines r.typed) in absurdly (cc)
+  part_there : (i : ℕ) (part : Option ℕ) → Ready text k d i part → part_type (types_to text k d i) part ≡ None → ⊥
+  part_there i part r e = let a = part_typed text k d r.stands (complete text k d lines r.typed) in absurdly (cc)
 
   -- a fault is ruled one
   fault_by : (i : ℕ) (v : Node) → AtFault text k d i v → (r : Ruled) → ruling_at text k d i ≡ r → r ≡ faulty
   fault_by i v a (Some (ruling.Typed t s)) e = absurd (a.untyped t (typed_has i t s (there_below i v a.there) e))
   fault_by i v a (Some (ruling.Done s)) e = absurd (a.unordered (done_ordered i v s (there_below i v a.there) a.there e))
   fault_by i v a (Some ruling.Waits) e =
-      elim (waits_for text k d v.method v.name (types_to text k d i v.left) (types_to text k d i v.right) v.shape (sym (judged_node i v a.there) ∙ e)) [
+      elim (waits_for text k d v.method (part_type (types_to text k d i) v.left) (part_type (types_to text k d i) v.right) v.shape (sym (judged_node i v a.there) ∙ e)) [
         | inl w ↦ absurd (part_there i v.left (a.left w.0) w.1)
         | inr w ↦ absurd (part_there i v.right (a.right w.0) w.1)
       ]

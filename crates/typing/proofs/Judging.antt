@@ -8,7 +8,7 @@ use Rattle.declarations.specs.Resolved.{Declared}
 use Rattle.typing.specs.declared.step.Instruction.{Instruction}
 use Rattle.typing.specs.Coding.{decoded}
 use Rattle.typing.specs.Typing.{Ruled, ruling_of}
-use Rattle.typing.specs.Passing.{node_at, type_of, types_to, ruling_at, fault_place, untyped, instruction_for, instruction_at, part_in}
+use Rattle.typing.specs.Passing.{node_at, type_of, part_type, kept_in, types_to, ruling_at, fault_place, untyped, instruction_for, instruction_at, part_in}
 
 module _ (text : List ℕ) (k : Contents) (d : Declared) where
   -- the nodes from n on have no types yet
@@ -34,8 +34,8 @@ module _ (text : List ℕ) (k : Contents) (d : Declared) where
   pub keeps_none : (scratch : List ℕ) → Keeps scratch 0
   keeps_none scratch = record { types = λ j h. absurd (omega arith) }
 
-  pub part_is : (scratch : List ℕ) (i j : ℕ) → Keeps scratch i → i ≤ length scratch → part_in scratch i j ≡ types_to text k d i j
-  part_is scratch i j inv h =
+  kept_is : (scratch : List ℕ) (i j : ℕ) → Keeps scratch i → i ≤ length scratch → kept_in scratch i j ≡ types_to text k d i j
+  kept_is scratch i j inv h =
       elim (cases_lt j i) [
         | inl b ↦
             let c : j < length scratch = omega arith in
@@ -43,13 +43,17 @@ module _ (text : List ℕ) (k : Contents) (d : Declared) where
         | inr b ↦ let e : ltb j i ≡ false = le-ltb _ _ b in simp e (sym (none_later i j b))
       ]
 
-  pub ruling_is : (i : ℕ) (v : Node) (left right : Option Ty) (r : Ruled) → v ≡ node_at k i → left ≡ types_to text k d i v.left → right ≡ types_to text k d i v.right
+  pub part_is : (scratch : List ℕ) (i : ℕ) (part : Option ℕ) → Keeps scratch i → i ≤ length scratch → part_in scratch i part ≡ part_type (types_to text k d i) part
+  part_is scratch i None inv h = refl
+  part_is scratch i (Some j) inv h = kept_is scratch i j inv h
+
+  pub ruling_is : (i : ℕ) (v : Node) (left right : Option Ty) (r : Ruled) → v ≡ node_at k i → left ≡ part_type (types_to text k d i) v.left → right ≡ part_type (types_to text k d i) v.right
       → r ≡ ruling_of text k d v left right → r ≡ ruling_at text k d i
   unfolding ruling_at
   ruling_is i v left right r e p q f =
       f
       ∙ (λ z. ruling_of text k d v (p z) (q z))
-      ∙ ap (λ (x : Node). ruling_of text k d x (types_to text k d i x.left) (types_to text k d i x.right)) e
+      ∙ ap (λ (x : Node). ruling_of text k d x (part_type (types_to text k d i) x.left) (part_type (types_to text k d i) x.right)) e
 
   pub place_is : (i : ℕ) (v : Node) (r : Ruled) (p : Option ℕ) → v ≡ node_at k i → r ≡ ruling_at text k d i → p ≡ fault_place r v.place → p ≡ untyped text k d i
   unfolding untyped

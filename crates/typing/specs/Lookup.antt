@@ -25,6 +25,11 @@ abbrev pub as_relationship : Lineage → ℕ → Option ℕ
 as_relationship Class n = None
 as_relationship Relationship n = Some n
 
+-- the number of a row, if it is of the line
+abbrev pub in_line : Lineage → CellRow → Option ℕ
+in_line Class r = as_class r.lineage r.number
+in_line Relationship r = as_relationship r.lineage r.number
+
 -- the class whose name stands at place p
 abbrev pub class_named : List ℕ → Contents → ℕ → Option ℕ
 class_named text k p = given (row_named text k p) None (λ r. as_class r.lineage r.number)

@@ -152,27 +152,27 @@ one left f = given left waiting f
 abbrev pub two : Option Ty → Option Ty → (Ty → Ty → Ruled) → Ruled
 two left right f = given left waiting (λ s. given right waiting (f s))
 
--- what a node of a shape is, with the number of its method, the place of its name, and the types of its parts
-abbrev pub of_shape : List ℕ → Contents → Declared → Shape → ℕ → ℕ → Option Ty → Option Ty → Ruled
-of_shape text k d shape.Variable m p left right = variable_ruling text k d m p
-of_shape text k d shape.True m p left right = ruled boolean (step.Truth true)
-of_shape text k d shape.False m p left right = ruled boolean (step.Truth false)
-of_shape text k d shape.Null m p left right = ruled null_type step.Null
-of_shape text k d shape.This m p left right = this_ruling k m
-of_shape text k d shape.New m p left right = new_ruling text k p
-of_shape text k d shape.Add m p left right = two left right (add_ruling text k d p)
-of_shape text k d shape.Rem m p left right = two left right (rem_ruling text k d p)
-of_shape text k d shape.Member m p left right = one left (λ s. member_ruling text k d s p)
-of_shape text k d shape.Call m p left right = two left right (λ s t. call_ruling text k d s p t)
-of_shape text k d shape.Instances m p left right = one left (λ s. instances_ruling text k d s p)
-of_shape text k d shape.From m p left right = one left (from_ruling d)
-of_shape text k d shape.To m p left right = one left (to_ruling d)
-of_shape text k d shape.Equal m p left right = two left right compare_ruling
-of_shape text k d shape.SetVariable m p left right = one right (set_variable_ruling text k d m p)
-of_shape text k d shape.SetMember m p left right = two left right (λ s t. set_member_ruling text k d s p t)
-of_shape text k d shape.Action m p left right = one left (λ s. ordered step.Drop)
-of_shape text k d shape.Branch m p left right = one left branch_ruling
-of_shape text k d shape.Return m p left right = one left (return_ruling d m)
+-- what a node of a shape is, with the number of its method, and the types of its parts
+abbrev pub of_shape : List ℕ → Contents → Declared → Shape → ℕ → Option Ty → Option Ty → Ruled
+of_shape text k d (shape.Variable p) m left right = variable_ruling text k d m p
+of_shape text k d shape.True m left right = ruled boolean (step.Truth true)
+of_shape text k d shape.False m left right = ruled boolean (step.Truth false)
+of_shape text k d shape.Null m left right = ruled null_type step.Null
+of_shape text k d shape.This m left right = this_ruling k m
+of_shape text k d (shape.New p) m left right = new_ruling text k p
+of_shape text k d (shape.Add p) m left right = two left right (add_ruling text k d p)
+of_shape text k d (shape.Rem p) m left right = two left right (rem_ruling text k d p)
+of_shape text k d (shape.Member p) m left right = one left (λ s. member_ruling text k d s p)
+of_shape text k d (shape.Call p) m left right = two left right (λ s t. call_ruling text k d s p t)
+of_shape text k d (shape.Instances p) m left right = one left (λ s. instances_ruling text k d s p)
+of_shape text k d shape.From m left right = one left (from_ruling d)
+of_shape text k d shape.To m left right = one left (to_ruling d)
+of_shape text k d shape.Equal m left right = two left right compare_ruling
+of_shape text k d (shape.SetVariable p) m left right = one right (set_variable_ruling text k d m p)
+of_shape text k d (shape.SetMember p) m left right = two left right (λ s t. set_member_ruling text k d s p t)
+of_shape text k d shape.Action m left right = one left (λ s. ordered step.Drop)
+of_shape text k d shape.Branch m left right = one left branch_ruling
+of_shape text k d shape.Return m left right = one left (return_ruling d m)
 
 abbrev pub ruling_of : List ℕ → Contents → Declared → Node → Option Ty → Option Ty → Ruled
-ruling_of text k d v left right = of_shape text k d v.shape v.method v.name left right
+ruling_of text k d v left right = of_shape text k d v.shape v.method left right
