@@ -10,7 +10,8 @@ use Rattle.outline.specs.Contents.{Contents}
 use Rattle.tables.specs.Below.{tabulated}
 use Rattle.tables.proofs.Laws.{length-tabulated}
 use Rattle.std.specs.List.{slice_get}
-use Rattle.declarations.specs.Rows.{given, rows_of, row_named}
+use Rattle.tables.specs.Items.{given}
+use Rattle.declarations.specs.Rows.{rows_of, row_named}
 use Rattle.declarations.specs.Resolved.{earlier, parent_or_root}
 
 -- what stands for a parent is no later row

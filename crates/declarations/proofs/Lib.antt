@@ -1,3 +1,5 @@
 pub mod Growing
 pub mod FirstFaults
+pub mod Options
+pub mod Searches
 pub mod Within
