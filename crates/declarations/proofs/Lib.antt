@@ -3,3 +3,4 @@ pub mod FirstFaults
 pub mod Options
 pub mod Searches
 pub mod Within
+pub mod Same

@@ -18,7 +18,7 @@ use Rattle.tables.specs.Below.{least_below}
 use Rattle.tables.proofs.Found.{least_none, least_among, least_lowest}
 use Rattle.declarations.specs.declared.declarations.Signature.{Signature}
 use Rattle.declarations.specs.Resolved.{Declared}
-use Rattle.declarations.specs.Rows.{given}
+use Rattle.tables.specs.Items.{given}
 use Rattle.typing.specs.declared.step.Step.{Step}
 use Rattle.typing.specs.declared.step.Step.TheVariants as step
 use Rattle.typing.specs.declared.step.Ruling.TheVariants as ruling

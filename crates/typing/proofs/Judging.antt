@@ -1,14 +1,23 @@
 -- One turn of the pass over the nodes.
-use Rattle.std.proofs.Common.{◌≡◌, ℕ, zero, suc, ◌+◌, ◌<◌, ◌≤◌, false, ◌&&◌, eqb, ltb, ◌≢◌, List, length, get_or, set, None, Option, sym, refl, ap, ◌∙◌, inl, inr, add-one, arith, get_or-set_other, get_or-set_same}
+use Rattle.std.proofs.Common.{◌≡◌, ℕ, zero, suc, ◌+◌, ◌<◌, ◌≤◌, false, ◌&&◌, eqb, ltb, ◌≢◌, List, length, get_or, set, take, None, Option, sym, refl, ap, ◌∙◌, inl, inr, add-one, arith, get_or-set_other, get_or-set_same, Some}
+use Rattle.std.specs.List.{slice_get}
+use Rattle.std.proofs.lemmas.List.{get_or-take, length-take}
+use Rattle.std.proofs.lemmas.Option.{slice_get-get_or}
+use Rattle.tables.specs.Items.{given}
 use Rattle.std.proofs.lemmas.Bool.{cases_eq, cases_lt, lt-ltb, le-ltb, cond-true, cond-false, eq-eqb, ne_eqb, and_from}
 use Rattle.values.specs.declared.types.Ty.{Ty}
+use Rattle.outline.specs.declared.entry.Shape.TheVariants as shape
 use Rattle.outline.specs.declared.entry.Node.{Node}
 use Rattle.outline.specs.Contents.{Contents}
 use Rattle.declarations.specs.Resolved.{Declared}
 use Rattle.typing.specs.declared.step.Instruction.{Instruction}
 use Rattle.typing.specs.Coding.{decoded}
 use Rattle.typing.specs.Typing.{Ruled, ruling_of}
-use Rattle.typing.specs.Passing.{node_at, type_of, part_type, kept_in, types_to, ruling_at, fault_place, untyped, instruction_for, instruction_at, part_in}
+use Rattle.typing.specs.Passing.{plain_node, node_at, type_of, part_type, kept_in, types_to, ruling_at, fault_place, untyped, instruction_for, instruction_at, part_in}
+
+-- what stands where a list of nodes has none
+abbrev pub no_node : Node
+no_node = record { shape = shape.Variable 0; method = 0; place = 0; left = None; right = None }
 
 module _ (text : List ℕ) (k : Contents) (d : Declared) where
   -- the nodes from n on have no types yet
@@ -26,6 +35,15 @@ module _ (text : List ℕ) (k : Contents) (d : Declared) where
   pub type_kept : (n j : ℕ) → j ≢ n → types_to text k d (n + 1) j ≡ types_to text k d n j
   unfolding types_to
   type_kept n j ne = rw add-one (cond-false (eqb j n) _ _ (ne_eqb j n ne))
+
+  -- the node of a turn
+  pub node_here : (xs : List Node) (n i : ℕ) (v : Node) → xs ≡ k.nodes → i < length (take n xs) → get_or (take n xs) i v ≡ node_at k i
+  node_here xs n i v e h =
+      let a : i < n = omega (arith, length-take n xs) in
+      let b : i < length xs = omega (arith, length-take n xs) in
+      get_or-take n xs i v a
+      ∙ sym (ap (λ (o : Option Node). given o plain_node (λ x. x)) (slice_get-get_or xs i v b))
+      ∙ ap (λ (ys : List Node). given (slice_get ys i) plain_node (λ x. x)) e
 
   -- the scratch has the types of the first n nodes
   pub record Keeps (scratch : List ℕ) (n : ℕ) : Type 0 where

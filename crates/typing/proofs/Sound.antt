@@ -16,7 +16,7 @@ use Rattle.outline.specs.Contents.{Contents}
 use Rattle.declarations.specs.declared.declarations.Ends.{Ends}
 use Rattle.declarations.specs.declared.declarations.Signature.{Signature}
 use Rattle.declarations.specs.Resolved.{Declared}
-use Rattle.declarations.specs.Rows.{given}
+use Rattle.tables.specs.Items.{given}
 use Rattle.typing.specs.declared.step.Step.{Step}
 use Rattle.typing.specs.declared.step.Step.TheVariants as step
 use Rattle.typing.specs.declared.step.Ruling.TheVariants as ruling
@@ -262,17 +262,17 @@ module _ (text : List ℕ) (k : Contents) (d : Declared) (lines : AreLines d.anc
   pub sound_to : (n i : ℕ) (t : Ty) → i < n → i < length k.nodes → type_at text k d i ≡ Some t → HasType text k d i t
   sound_to zero i t b h q = absurd (omega arith)
   sound_to (suc n) i t b h q =
-      by_shape i (get_or k.nodes i plain_node) t (record { part = part }) (there_at i h) (get_or k.nodes i plain_node).shape refl (node_judged i t h q)
+      by_shape i (get_or k.nodes i plain_node) t (record { part = part (λ j s c e. sound_to n j s (omega arith) (omega arith) e) }) (there_at i h) (get_or k.nodes i plain_node).shape refl (node_judged i t h q)
     where
-      part : (o : Option ℕ) (s : Ty) → part_type (types_to text k d i) o ≡ Some s → Part i o s
-      part None s e = clash e
-      part (Some j) s e =
+      part : ((j : ℕ) (s : Ty) → j < i → type_at text k d j ≡ Some s → HasType text k d j s) → (o : Option ℕ) (s : Ty) → part_type (types_to text k d i) o ≡ Some s → Part i o s
+      part earlier None s e = clash e
+      part earlier (Some j) s e =
           elim (cases_lt j i) [
             | inl c ↦
                 record {
                   node = j;
                   stands = record { is = refl; before = c };
-                  typed = sound_to n j s (omega arith) (omega arith) (sym (settled text k d i j c) ∙ e);
+                  typed = earlier j s c (sym (settled text k d i j c) ∙ e);
                 }
             | inr c ↦ clash (sym (none_later text k d i j c) ∙ e)
           ]

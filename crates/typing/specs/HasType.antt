@@ -16,7 +16,7 @@ use Rattle.outline.specs.declared.entry.Node.{Node}
 use Rattle.outline.specs.Contents.{Contents}
 use Rattle.declarations.specs.declared.declarations.Ends.{Ends}
 use Rattle.declarations.specs.declared.declarations.Signature.{Signature}
-use Rattle.declarations.specs.Descending.{line_in}
+use Rattle.values.specs.Fits.{line_in}
 use Rattle.declarations.specs.Resolved.{Declared}
 use Rattle.typing.specs.Lookup.{class_named, relationship_named, variable_named, field_of, method_of_row}
 use Rattle.typing.specs.Typing.{type_of_row, set_of_row}

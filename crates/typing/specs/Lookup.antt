@@ -12,8 +12,10 @@ use Rattle.values.specs.declared.types.Ty.{Ty}
 use Rattle.outline.specs.Contents.{Contents}
 use Rattle.tables.specs.Below.{first_below, count_below}
 use Rattle.declarations.specs.Clashes.{method_alike, variable_alike}
-use Rattle.declarations.specs.Descending.{line_in, same_row}
-use Rattle.declarations.specs.Rows.{row, given, holds, row_named}
+use Rattle.values.specs.Fits.{line_in}
+use Rattle.declarations.specs.Descending.{same_row}
+use Rattle.tables.specs.Items.{given, holds}
+use Rattle.declarations.specs.Rows.{row, row_named}
 use Rattle.declarations.specs.Resolved.{Declared, variable_of}
 
 -- the number, if the line is that of the classes, or of the relationships

@@ -12,7 +12,7 @@ use Rattle.outline.specs.declared.entry.Shape.{Shape}
 use Rattle.outline.specs.declared.entry.Shape.TheVariants as shape
 use Rattle.outline.specs.declared.entry.Node.{Node}
 use Rattle.outline.specs.Contents.{Contents}
-use Rattle.declarations.specs.Rows.{given}
+use Rattle.tables.specs.Items.{given}
 use Rattle.declarations.specs.Resolved.{Declared}
 use Rattle.typing.specs.declared.step.Step.{Step}
 use Rattle.typing.specs.declared.step.Step.TheVariants as step

@@ -1,4 +1,6 @@
-ghost use Rattle.std.specs.Prelude.{◌≡◌};
+ghost use Rattle.std.specs.Prelude.{◌≡◌, ◌&&◌, ◌==◌, count_by, take};
+ghost use Rattle.words.specs.Names.{is_name};
+ghost use Rattle.declarations.specs.Descending.{same_row};
 ghost use Rattle.outline.specs.Contents.{contents};
 ghost use Rattle.declarations.specs.Resolved.{declared};
 ghost use Rattle.typing.specs.Lookup.{in_line, class_named, relationship_named, row_of, relationship_of, variable_named, variable_number, field_of, field_upward, method_of_row, method_upward, field_from, method_from};
@@ -6,6 +8,7 @@ ghost use Rattle.typing.specs.Lookup.{in_line, class_named, relationship_named, 
 use crate::typer::Typer;
 use declarations::source::Source;
 use descent::members::nearest;
+use outline::entry::{Field, Method, Variable};
 use values::types::{CellRow, Kind, Lineage, Ty};
 
 // The number of a row, if it is of the line.
@@ -36,95 +39,133 @@ pub(crate) fn relationship_of(t: Ty) -> Option<u8>
 }
 
 // The class whose name stands at a place.
-pub(crate) fn class_named(source: Source<'_>, place: usize) -> Option<u8>
-    ensures { result ≡ class_named source.entry.text.now (contents source.entry.outline.now) place }
+pub(crate) fn class_named(source: &Source<'_>, place: usize) -> Option<u8>
+    ensures { result ≡ class_named source.now.text.now (contents source.now.outline.now) place }
 {
     in_line(Lineage::Class, source.row_named(place)?)
 }
 
 // The relationship whose name stands at a place.
-pub(crate) fn relationship_named(source: Source<'_>, place: usize) -> Option<u8>
-    ensures { result ≡ relationship_named source.entry.text.now (contents source.entry.outline.now) place }
+pub(crate) fn relationship_named(source: &Source<'_>, place: usize) -> Option<u8>
+    ensures { result ≡ relationship_named source.now.text.now (contents source.now.outline.now) place }
 {
     in_line(Lineage::Relationship, source.row_named(place)?)
 }
 
+// Whether the variable is of the method and has the name.
+fn is_variable(source: &Source<'_>, variable: Variable, method: usize, name: &[u8]) -> bool
+    ensures { result ≡ (variable.method == method && is_name source.now.text.now variable.name name.now) }
+{
+    variable.method == method && source.spells(variable.name, name)
+}
+
 // The first variable of the method that has the name at a place.
-pub(crate) fn variable_named(source: Source<'_>, method: usize, place: usize) -> Option<usize>
-    ensures { result ≡ variable_named source.entry.text.now (contents source.entry.outline.now) method place }
+#[tactic(auto, using(tables::proofs::Chains::position_all), unfolding(crate::specs::Lookup::variable_named))]
+pub(crate) fn variable_named(source: &Source<'_>, method: usize, place: usize) -> Option<usize>
+    ensures { result ≡ variable_named source.now.text.now (contents source.now.outline.now) method place }
 {
     let name = source.name_at(place);
     let variables = source.outline.variables.as_slice();
     variables
         .iter()
-        .position(|v| v.method == method && source.spells(v.name, name))
+        .position(|variable| is_variable(source, *variable, method, name))
+}
+
+// How many of the first i variables are of the method.
+fn variables_before(source: &Source<'_>, method: usize, i: usize) -> usize
+    ensures { result ≡ count_by (λ (v : _). v.method == method) (take i (contents source.now.outline.now).variables) }
+{
+    let variables = source.outline.variables.as_slice();
+    variables
+        .iter()
+        .take(i)
+        .filter(|variable| variable.method == method)
+        .count()
 }
 
 // The number of a variable in its method.
-pub(crate) fn variable_number(source: Source<'_>, method: usize, i: usize) -> usize
-    ensures { result ≡ variable_number (contents source.entry.outline.now) method i }
+#[tactic(auto, using(tables::proofs::Chains::count_take), unfolding(crate::specs::Lookup::variable_number))]
+pub(crate) fn variable_number(source: &Source<'_>, method: usize, i: usize) -> usize
+    ensures { result ≡ variable_number (contents source.now.outline.now) method i }
 {
-    let before = source.outline.variables.as_slice().iter().take(i);
-    before.filter(|v| v.method == method).count()
+    variables_before(source, method, i)
+}
+
+// Whether the field is declared in the row and has the name.
+#[tactic(auto, using(declarations::proofs::Same::row_is))]
+fn is_field(source: &Source<'_>, field: Field, row: CellRow, name: &[u8]) -> bool
+    ensures { result ≡ (same_row field.owner row && is_name source.now.text.now field.name name.now) }
+{
+    field.owner == row && source.spells(field.name, name)
 }
 
 // The first field of a row that has the name.
-fn field_of(source: Source<'_>, row: CellRow, name: &[u8]) -> Option<usize>
-    ensures { result ≡ field_of source.entry.text.now (contents source.entry.outline.now) row.lineage name.now row.number }
+#[tactic(auto, using(tables::proofs::Chains::position_all), unfolding(crate::specs::Lookup::field_of))]
+fn field_of(source: &Source<'_>, row: CellRow, name: &[u8]) -> Option<usize>
+    ensures { result ≡ field_of source.now.text.now (contents source.now.outline.now) row.lineage name.now row.number }
 {
     let fields = source.outline.fields.as_slice();
     fields
         .iter()
-        .position(|field| field.owner == row && source.spells(field.name, name))
+        .position(|field| is_field(source, *field, row, name))
+}
+
+// Whether the method is declared in the row and has the name.
+#[tactic(auto, using(declarations::proofs::Same::row_is))]
+fn is_method(source: &Source<'_>, method: Method, row: CellRow, name: &[u8]) -> bool
+    ensures { result ≡ (same_row method.owner row && is_name source.now.text.now method.name name.now) }
+{
+    method.owner == row && source.spells(method.name, name)
 }
 
 // The first method of a row that has the name.
-fn method_of(source: Source<'_>, row: CellRow, name: &[u8]) -> Option<usize>
-    ensures { result ≡ method_of_row source.entry.text.now (contents source.entry.outline.now) row.lineage name.now row.number }
+#[tactic(auto, using(tables::proofs::Chains::position_all), unfolding(crate::specs::Lookup::method_of_row))]
+fn method_of(source: &Source<'_>, row: CellRow, name: &[u8]) -> Option<usize>
+    ensures { result ≡ method_of_row source.now.text.now (contents source.now.outline.now) row.lineage name.now row.number }
 {
     let methods = source.outline.methods.as_slice();
     methods
         .iter()
-        .position(|method| method.owner == row && source.spells(method.name, name))
+        .position(|method| is_method(source, *method, row, name))
 }
 
 impl<'a> Typer<'a> {
     // The field with the name at a place that is found upward from a row.
     #[tactic(auto, unfolding(crate::specs::Lookup::field_upward))]
-    fn field_upward(self, row: CellRow, place: usize) -> Option<usize>
-        ensures { result ≡ field_upward self.entry.source.text.now (contents self.entry.source.outline.now) (declared self.entry.declarations.now) row place }
+    fn field_upward(&self, row: CellRow, place: usize) -> Option<usize>
+        ensures { result ≡ field_upward self.now.source.text.now (contents self.now.source.outline.now) (declared self.now.declarations.now) row place }
     {
         let line = self.declarations.lines.line(row.lineage);
         let name = self.source.name_at(place);
         let found = nearest(line, row.number, |number| {
-            field_of(self.source, CellRow { number, ..row }, name)
+            field_of(&self.source, CellRow { number, ..row }, name)
         });
         found.map(|(_, field)| field)
     }
 
     // The method with the name at a place that is found upward from a row.
     #[tactic(auto, unfolding(crate::specs::Lookup::method_upward))]
-    fn method_upward(self, row: CellRow, place: usize) -> Option<usize>
-        ensures { result ≡ method_upward self.entry.source.text.now (contents self.entry.source.outline.now) (declared self.entry.declarations.now) row place }
+    fn method_upward(&self, row: CellRow, place: usize) -> Option<usize>
+        ensures { result ≡ method_upward self.now.source.text.now (contents self.now.source.outline.now) (declared self.now.declarations.now) row place }
     {
         let line = self.declarations.lines.line(row.lineage);
         let name = self.source.name_at(place);
         let found = nearest(line, row.number, |number| {
-            method_of(self.source, CellRow { number, ..row }, name)
+            method_of(&self.source, CellRow { number, ..row }, name)
         });
         found.map(|(_, method)| method)
     }
 
     // The field that is found upward from a type, if it is a row.
-    pub(crate) fn field_from(self, t: Ty, place: usize) -> Option<usize>
-        ensures { result ≡ field_from self.entry.source.text.now (contents self.entry.source.outline.now) (declared self.entry.declarations.now) t place }
+    pub(crate) fn field_from(&self, t: Ty, place: usize) -> Option<usize>
+        ensures { result ≡ field_from self.now.source.text.now (contents self.now.source.outline.now) (declared self.now.declarations.now) t place }
     {
         self.field_upward(row_of(t)?, place)
     }
 
     // The method that is found upward from a type, if it is a row.
-    pub(crate) fn method_from(self, t: Ty, place: usize) -> Option<usize>
-        ensures { result ≡ method_from self.entry.source.text.now (contents self.entry.source.outline.now) (declared self.entry.declarations.now) t place }
+    pub(crate) fn method_from(&self, t: Ty, place: usize) -> Option<usize>
+        ensures { result ≡ method_from self.now.source.text.now (contents self.now.source.outline.now) (declared self.now.declarations.now) t place }
     {
         self.method_upward(row_of(t)?, place)
     }

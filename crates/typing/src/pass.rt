@@ -66,20 +66,29 @@ pub struct Untyped {
     pub place: usize,
 }
 
+fn refused_at(place: Option<usize>) -> Result<(), Untyped>
+    ensures { told result ≡ place }
+{
+    match place {
+        None => Ok(()),
+        Some(place) => Err(Untyped { place }),
+    }
+}
+
 impl<'a> Typer<'a> {
     // Judges as many nodes as the scratch has entries for, in order, and adds an instruction for each. Answers with the
     // least place of a node at fault, if there is one.
     pub fn judge(
-        self,
+        &self,
         scratch: &mut [u16],
         steps: &mut Table<Instruction, 2048>,
     ) -> Result<(), Untyped>
-        ensures first { told result ≡ first_untyped self.entry.source.text.now (contents self.entry.source.outline.now) (declared self.entry.declarations.now) (min (length (contents self.entry.source.outline.now).nodes) (length scratch.old)) }
+        ensures first { told result ≡ first_untyped self.now.source.text.now (contents self.now.source.outline.now) (declared self.now.declarations.now) (min (length (contents self.now.source.outline.now).nodes) (length scratch.old)) }
         ensures kept { length scratch.new ≡ length scratch.old }
-        ensures added { listed steps.new ≡ pushed_below 2048 (instruction_at self.entry.source.text.now (contents self.entry.source.outline.now) (declared self.entry.declarations.now)) (min (length (contents self.entry.source.outline.now).nodes) (length scratch.old)) (listed steps.old) }
-        ensures fresh { listed steps.old ≡ [] → listed steps.new ≡ tabulated (instruction_at self.entry.source.text.now (contents self.entry.source.outline.now) (declared self.entry.declarations.now)) (min (length (contents self.entry.source.outline.now).nodes) (length scratch.old)) }
-        ensures least { FirstFault self.entry.source.text.now (contents self.entry.source.outline.now) (declared self.entry.declarations.now) (min (length (contents self.entry.source.outline.now).nodes) (length scratch.old)) (told result) }
-        ensures laws { TypeLaws self.entry.source.text.now (contents self.entry.source.outline.now) (declared self.entry.declarations.now) }
+        ensures added { listed steps.new ≡ pushed_below 2048 (instruction_at self.now.source.text.now (contents self.now.source.outline.now) (declared self.now.declarations.now)) (min (length (contents self.now.source.outline.now).nodes) (length scratch.old)) (listed steps.old) }
+        ensures fresh { listed steps.old ≡ [] → listed steps.new ≡ tabulated (instruction_at self.now.source.text.now (contents self.now.source.outline.now) (declared self.now.declarations.now)) (min (length (contents self.now.source.outline.now).nodes) (length scratch.old)) }
+        ensures least { FirstFault self.now.source.text.now (contents self.now.source.outline.now) (declared self.now.declarations.now) (min (length (contents self.now.source.outline.now).nodes) (length scratch.old)) (told result) }
+        ensures laws { TypeLaws self.now.source.text.now (contents self.now.source.outline.now) (declared self.now.declarations.now) }
     {
         let nodes = self.source.outline.nodes.as_slice();
         let n = nodes.len().min(scratch.len());
@@ -92,9 +101,6 @@ impl<'a> Typer<'a> {
             least = lesser_of(least, fault_place(ruling, node.place));
             steps.push(instruction_for(ruling, *node));
         }
-        match least {
-            None => Ok(()),
-            Some(place) => Err(Untyped { place }),
-        }
+        refused_at(least)
     }
 }

@@ -1,9 +1,12 @@
-ghost use Rattle.std.specs.Prelude.{◌≡◌, cond, MatchOption};
+ghost use Rattle.std.specs.Prelude.{◌≡◌, ◌<◌, cond};
 ghost use Rattle.std.specs.List.{slice_get};
 ghost use Rattle.outline.specs.Contents.{contents};
+ghost use Rattle.values.specs.declared.types.Ty.{Ty};
 ghost use Rattle.values.specs.Fits.{fits_to};
+ghost use Rattle.values.specs.Types.{row_type};
+ghost use Rattle.values.specs.declared.types.Lineage.TheVariants.{Relationship};
 ghost use Rattle.declarations.specs.Resolved.{declared};
-ghost use Rattle.typing.specs.Typing.{ruled, faulty, waiting, type_of_row, set_of_row, this_ruling, variable_ruling, new_ruling, partners_ruling, field_ruling, member_ruling, instances_ruling, from_ruling, to_ruling, comparable, compare_ruling, set_variable_ruling, set_field_ruling, set_member_ruling, pair_named, add_ruling, rem_ruling, call_ruling, is_boolean, branch_ruling, return_ruling, ruling_of};
+ghost use Rattle.typing.specs.Typing.{Ruled, ruled, faulty, one, two, type_of_row, set_of_row, this_ruling, variable_ruling, new_ruling, partners_ruling, field_ruling, member_ruling, instances_ruling, from_ruling, to_ruling, comparable, compare_ruling, set_variable_ruling, set_field_ruling, set_member_ruling, pair_named, add_ruling, rem_ruling, call_ruling, is_boolean, branch_ruling, return_ruling, ruling_of};
 
 use crate::lookup::{
     class_named, relationship_named, relationship_of, variable_named, variable_number,
@@ -66,7 +69,7 @@ fn relationship_type(r: u8) -> Ty
 // What the rule says of a node with one part; a node whose part has no type waits.
 fn one<F: FnOnce(Ty) -> Option<Ruling>>(part: Option<Ty>, rule: F) -> Option<Ruling>
     requires { F.IsAlwaysCallable rule }
-    ensures { MatchOption part (result ≡ waiting) (λ s. F.post rule s result) }
+    ensures { (f : Ty → Ruled) → ((s : Ty) (r : Ruled) → s.row < 256 → F.post rule s r → r ≡ f s) → result ≡ one part f }
 {
     match part {
         None => Some(Ruling::Waits),
@@ -81,7 +84,7 @@ fn two<F: FnOnce(Ty, Ty) -> Option<Ruling>>(
     rule: F,
 ) -> Option<Ruling>
     requires { F.IsAlwaysCallable rule }
-    ensures { MatchOption left (result ≡ waiting) (λ s. MatchOption right (result ≡ waiting) (λ t. F.post rule s t result)) }
+    ensures { (f : Ty → Ty → Ruled) → ((s t : Ty) (r : Ruled) → s.row < 256 → t.row < 256 → F.post rule s t r → r ≡ f s t) → result ≡ two left right f }
 {
     match (left, right) {
         (Some(s), Some(t)) => rule(s, t),
@@ -90,54 +93,54 @@ fn two<F: FnOnce(Ty, Ty) -> Option<Ruling>>(
 }
 
 impl<'a> Typer<'a> {
-    fn fits(self, s: Ty, t: Ty) -> bool
-        ensures { result ≡ fits_to (declared self.entry.declarations.now).ancestry s t }
+    fn fits(&self, s: Ty, t: Ty) -> bool
+        ensures { result ≡ fits_to (declared self.now.declarations.now).ancestry s t }
     {
         self.declarations.lines.fits(s, t)
     }
 
-    fn fits_row(self, s: Ty, row: CellRow) -> bool
-        ensures { result ≡ fits_to (declared self.entry.declarations.now).ancestry s (type_of_row row) }
+    fn fits_row(&self, s: Ty, row: CellRow) -> bool
+        ensures { result ≡ fits_to (declared self.now.declarations.now).ancestry s (type_of_row row) }
     {
         self.fits(s, type_of_row(row))
     }
 
     // The ends of a relationship.
-    fn ends(self, r: u8) -> Option<Ends>
-        ensures { result ≡ slice_get (declared self.entry.declarations.now).ends r }
+    fn ends(&self, r: u8) -> Option<Ends>
+        ensures { result ≡ slice_get (declared self.now.declarations.now).ends r }
     {
         self.declarations.ends.get(r as usize)
     }
 
     // this: the row that owns the method
-    fn this_rule(self, method: usize) -> Option<Ruling>
-        ensures { result ≡ this_ruling (contents self.entry.source.outline.now) method }
+    fn this_rule(&self, method: usize) -> Option<Ruling>
+        ensures { result ≡ this_ruling (contents self.now.source.outline.now) method }
     {
         let method = self.source.outline.methods.get(method)?;
         Some(Ruling::Typed(type_of_row(method.owner), Step::This))
     }
 
     // A variable of the method has its declared type.
-    fn variable_rule(self, method: usize, name: usize) -> Option<Ruling>
-        ensures { result ≡ variable_ruling self.entry.source.text.now (contents self.entry.source.outline.now) (declared self.entry.declarations.now) method name }
+    fn variable_rule(&self, method: usize, name: usize) -> Option<Ruling>
+        ensures { result ≡ variable_ruling self.now.source.text.now (contents self.now.source.outline.now) (declared self.now.declarations.now) method name }
     {
-        let i = variable_named(self.source, method, name)?;
+        let i = variable_named(&self.source, method, name)?;
         let t = self.declarations.variables.get(i)?;
-        let number = variable_number(self.source, method, i);
+        let number = variable_number(&self.source, method, i);
         Some(Ruling::Typed(t, Step::Variable(number)))
     }
 
     // A new object has its class.
-    fn new_rule(self, name: usize) -> Option<Ruling>
-        ensures { result ≡ new_ruling self.entry.source.text.now (contents self.entry.source.outline.now) name }
+    fn new_rule(&self, name: usize) -> Option<Ruling>
+        ensures { result ≡ new_ruling self.now.source.text.now (contents self.now.source.outline.now) name }
     {
-        let n = class_named(self.source, name)?;
+        let n = class_named(&self.source, name)?;
         Some(Ruling::Typed(Ty::of_row(Lineage::Class, n), Step::New(n)))
     }
 
     // The partners of what fits the first end: a set of the second end.
-    fn partners_rule(self, s: Ty, r: u8) -> Option<Ruling>
-        ensures { result ≡ partners_ruling (declared self.entry.declarations.now) s r }
+    fn partners_rule(&self, s: Ty, r: u8) -> Option<Ruling>
+        ensures { result ≡ partners_ruling (declared self.now.declarations.now) s r }
     {
         let ends = self.ends(r)?;
         typed_if(
@@ -148,8 +151,8 @@ impl<'a> Typer<'a> {
     }
 
     // A field that is found upward has its declared type.
-    fn field_rule(self, s: Ty, name: usize) -> Option<Ruling>
-        ensures { result ≡ field_ruling self.entry.source.text.now (contents self.entry.source.outline.now) (declared self.entry.declarations.now) s name }
+    fn field_rule(&self, s: Ty, name: usize) -> Option<Ruling>
+        ensures { result ≡ field_ruling self.now.source.text.now (contents self.now.source.outline.now) (declared self.now.declarations.now) s name }
     {
         let f = self.field_from(s, name)?;
         let t = self.declarations.fields.get(f)?;
@@ -157,20 +160,20 @@ impl<'a> Typer<'a> {
     }
 
     // What stands after a dot is a relationship, or else a field.
-    fn member_rule(self, s: Ty, name: usize) -> Option<Ruling>
-        ensures { result ≡ member_ruling self.entry.source.text.now (contents self.entry.source.outline.now) (declared self.entry.declarations.now) s name }
+    fn member_rule(&self, s: Ty, name: usize) -> Option<Ruling>
+        ensures { result ≡ member_ruling self.now.source.text.now (contents self.now.source.outline.now) (declared self.now.declarations.now) s name }
     {
-        match relationship_named(self.source, name) {
+        match relationship_named(&self.source, name) {
             None => self.field_rule(s, name),
             Some(r) => self.partners_rule(s, r),
         }
     }
 
     // The instances of a relationship from what fits its first end: a set of it.
-    fn instances_rule(self, s: Ty, name: usize) -> Option<Ruling>
-        ensures { result ≡ instances_ruling self.entry.source.text.now (contents self.entry.source.outline.now) (declared self.entry.declarations.now) s name }
+    fn instances_rule(&self, s: Ty, name: usize) -> Option<Ruling>
+        ensures { result ≡ instances_ruling self.now.source.text.now (contents self.now.source.outline.now) (declared self.now.declarations.now) s name }
     {
-        let r = relationship_named(self.source, name)?;
+        let r = relationship_named(&self.source, name)?;
         let ends = self.ends(r)?;
         typed_if(
             self.fits_row(s, ends.first),
@@ -180,34 +183,34 @@ impl<'a> Typer<'a> {
     }
 
     // The first end of a relationship row.
-    fn from_rule(self, s: Ty) -> Option<Ruling>
-        ensures { result ≡ from_ruling (declared self.entry.declarations.now) s }
+    fn from_rule(&self, s: Ty) -> Option<Ruling>
+        ensures { result ≡ from_ruling (declared self.now.declarations.now) s }
     {
         let ends = self.ends(relationship_of(s)?)?;
         Some(Ruling::Typed(type_of_row(ends.first), Step::From))
     }
 
     // The second end of a relationship row.
-    fn to_rule(self, s: Ty) -> Option<Ruling>
-        ensures { result ≡ to_ruling (declared self.entry.declarations.now) s }
+    fn to_rule(&self, s: Ty) -> Option<Ruling>
+        ensures { result ≡ to_ruling (declared self.now.declarations.now) s }
     {
         let ends = self.ends(relationship_of(s)?)?;
         Some(Ruling::Typed(type_of_row(ends.second), Step::To))
     }
 
     // What fits a variable is assigned to it, and keeps its own type.
-    fn set_variable_rule(self, method: usize, name: usize, t: Ty) -> Option<Ruling>
-        ensures { result ≡ set_variable_ruling self.entry.source.text.now (contents self.entry.source.outline.now) (declared self.entry.declarations.now) method name t }
+    fn set_variable_rule(&self, method: usize, name: usize, t: Ty) -> Option<Ruling>
+        ensures { result ≡ set_variable_ruling self.now.source.text.now (contents self.now.source.outline.now) (declared self.now.declarations.now) method name t }
     {
-        let i = variable_named(self.source, method, name)?;
+        let i = variable_named(&self.source, method, name)?;
         let declared = self.declarations.variables.get(i)?;
-        let number = variable_number(self.source, method, i);
+        let number = variable_number(&self.source, method, i);
         typed_if(self.fits(t, declared), t, Step::SetVariable(number))
     }
 
     // What fits a field that is found upward is assigned to it, and keeps its own type.
-    fn set_field_rule(self, s: Ty, name: usize, t: Ty) -> Option<Ruling>
-        ensures { result ≡ set_field_ruling self.entry.source.text.now (contents self.entry.source.outline.now) (declared self.entry.declarations.now) s name t }
+    fn set_field_rule(&self, s: Ty, name: usize, t: Ty) -> Option<Ruling>
+        ensures { result ≡ set_field_ruling self.now.source.text.now (contents self.now.source.outline.now) (declared self.now.declarations.now) s name t }
     {
         let f = self.field_from(s, name)?;
         let declared = self.declarations.fields.get(f)?;
@@ -215,43 +218,43 @@ impl<'a> Typer<'a> {
     }
 
     // Nothing is assigned to a relationship.
-    fn set_member_rule(self, s: Ty, name: usize, t: Ty) -> Option<Ruling>
-        ensures { result ≡ set_member_ruling self.entry.source.text.now (contents self.entry.source.outline.now) (declared self.entry.declarations.now) s name t }
+    fn set_member_rule(&self, s: Ty, name: usize, t: Ty) -> Option<Ruling>
+        ensures { result ≡ set_member_ruling self.now.source.text.now (contents self.now.source.outline.now) (declared self.now.declarations.now) s name t }
     {
-        match relationship_named(self.source, name) {
+        match relationship_named(&self.source, name) {
             None => self.set_field_rule(s, name, t),
             Some(_) => None,
         }
     }
 
     // The relationship with the name, if the two types fit its ends.
-    fn pair_named(self, name: usize, s: Ty, t: Ty) -> Option<u8>
-        ensures { result ≡ pair_named self.entry.source.text.now (contents self.entry.source.outline.now) (declared self.entry.declarations.now) name s t }
+    fn pair_named(&self, name: usize, s: Ty, t: Ty) -> Option<u8>
+        ensures { result ≡ pair_named self.now.source.text.now (contents self.now.source.outline.now) (declared self.now.declarations.now) name s t }
     {
-        let r = relationship_named(self.source, name)?;
+        let r = relationship_named(&self.source, name)?;
         let ends = self.ends(r)?;
         (self.fits_row(s, ends.first) && self.fits_row(t, ends.second)).then_some(r)
     }
 
     // An instance is added between what fits the ends.
-    fn add_rule(self, name: usize, s: Ty, t: Ty) -> Option<Ruling>
-        ensures { result ≡ add_ruling self.entry.source.text.now (contents self.entry.source.outline.now) (declared self.entry.declarations.now) name s t }
+    fn add_rule(&self, name: usize, s: Ty, t: Ty) -> Option<Ruling>
+        ensures { result ≡ add_ruling self.now.source.text.now (contents self.now.source.outline.now) (declared self.now.declarations.now) name s t }
     {
         let r = self.pair_named(name, s, t)?;
         Some(Ruling::Typed(relationship_type(r), Step::Add(r)))
     }
 
     // An instance is removed between what fits the ends.
-    fn rem_rule(self, name: usize, s: Ty, t: Ty) -> Option<Ruling>
-        ensures { result ≡ rem_ruling self.entry.source.text.now (contents self.entry.source.outline.now) (declared self.entry.declarations.now) name s t }
+    fn rem_rule(&self, name: usize, s: Ty, t: Ty) -> Option<Ruling>
+        ensures { result ≡ rem_ruling self.now.source.text.now (contents self.now.source.outline.now) (declared self.now.declarations.now) name s t }
     {
         let r = self.pair_named(name, s, t)?;
         Some(Ruling::Typed(relationship_type(r), Step::Rem(r)))
     }
 
     // A method that is found upward, with an argument that fits its parameter, has its result's type.
-    fn call_rule(self, s: Ty, name: usize, t: Ty) -> Option<Ruling>
-        ensures { result ≡ call_ruling self.entry.source.text.now (contents self.entry.source.outline.now) (declared self.entry.declarations.now) s name t }
+    fn call_rule(&self, s: Ty, name: usize, t: Ty) -> Option<Ruling>
+        ensures { result ≡ call_ruling self.now.source.text.now (contents self.now.source.outline.now) (declared self.now.declarations.now) s name t }
     {
         let m = self.method_from(s, name)?;
         let signature = self.declarations.methods.get(m)?;
@@ -263,8 +266,8 @@ impl<'a> Typer<'a> {
     }
 
     // What is returned fits the method's result.
-    fn return_rule(self, method: usize, s: Ty) -> Option<Ruling>
-        ensures { result ≡ return_ruling (declared self.entry.declarations.now) method s }
+    fn return_rule(&self, method: usize, s: Ty) -> Option<Ruling>
+        ensures { result ≡ return_ruling (declared self.now.declarations.now) method s }
     {
         let signature = self.declarations.methods.get(method)?;
         self.fits(s, signature.result)
@@ -272,8 +275,8 @@ impl<'a> Typer<'a> {
     }
 
     // What the rules say of a node whose parts have these types; none where no rule covers it.
-    pub fn rule(self, node: Node, left: Option<Ty>, right: Option<Ty>) -> Option<Ruling>
-        ensures { result ≡ ruling_of self.entry.source.text.now (contents self.entry.source.outline.now) (declared self.entry.declarations.now) node left right }
+    pub fn rule(&self, node: Node, left: Option<Ty>, right: Option<Ty>) -> Option<Ruling>
+        ensures { result ≡ ruling_of self.now.source.text.now (contents self.now.source.outline.now) (declared self.now.declarations.now) node left right }
     {
         match node.shape {
             Shape::Variable(name) => self.variable_rule(node.method, name),
