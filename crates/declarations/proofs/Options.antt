@@ -1,12 +1,6 @@
 -- What methods of options answer, where their closures answer what a definition says.
 use Rattle.std.proofs.Common.{◌≡◌, Some, None, Option, MatchOption, ap, ◌∙◌}
 use Rattle.std.specs.Option.{IsSomeAnd}
-use Rattle.tables.specs.Below.{or_else}
-
--- `a.or_else(..)`
-pub chosen : {X : Type 0} {P : Type 0} (a o b r : Option X) → (P → r ≡ b) → a ≡ o → MatchOption a P (λ x. r ≡ Some x) → r ≡ or_else o b
-chosen None o b r k e m = k m ∙ ap (λ u. or_else u b) e
-chosen (Some x) o b r k e m = m ∙ ap (λ u. or_else u b) e
 
 -- `a.map(..)`
 pub mapped : {X Y : Type 0} {P : X → Y → Type 0} (g : Option X → Option Y) (a o : Option X) (r : Option Y)

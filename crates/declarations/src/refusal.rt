@@ -2,7 +2,7 @@ ghost use Rattle.std.specs.Prelude.{◌≡◌};
 ghost use Rattle.declarations.specs.Faults.{number_of, place_of};
 
 // Why declarations are refused, and at which place.
-#[derive(Clone, Copy)]
+#[derive(Clone, Copy, PartialEq, Eq, Debug)]
 pub enum Misdeclared {
     NameTaken(usize),
     NotDeclared(usize),
@@ -34,13 +34,13 @@ impl Misdeclared {
         ensures { result ≡ place_of self }
     {
         match self {
-            Misdeclared::NameTaken(place) => place,
-            Misdeclared::NotDeclared(place) => place,
-            Misdeclared::Clash(place) => place,
-            Misdeclared::EndMisfit(place) => place,
-            Misdeclared::OverrideMisfit(place) => place,
+            Misdeclared::NameTaken(place)
+            | Misdeclared::NotDeclared(place)
+            | Misdeclared::Clash(place)
+            | Misdeclared::EndMisfit(place)
+            | Misdeclared::OverrideMisfit(place)
+            | Misdeclared::TooManyFields(place) => place,
             Misdeclared::NoMain => 0,
-            Misdeclared::TooManyFields(place) => place,
         }
     }
 }

@@ -43,7 +43,7 @@ impl<'a> Source<'a> {
     }
 
     // The place of the first declared row of a line that has the name.
-    fn place_among(&self, lineage: Lineage, name: &[u8]) -> Option<usize>
+    pub(crate) fn place_among(&self, lineage: Lineage, name: &[u8]) -> Option<usize>
         ensures { result ≡ position (λ (r : _). is_name self.now.text.now r.name name.now) (rows_of (contents self.now.outline.now) lineage) }
     {
         let rows = self.rows(lineage).as_slice();
