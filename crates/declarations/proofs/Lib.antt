@@ -4,4 +4,3 @@ pub mod Options
 pub mod Same
 pub mod Searches
 pub mod Within
-pub mod Same

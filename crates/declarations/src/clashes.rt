@@ -50,7 +50,7 @@ impl<'a> Source<'a> {
     }
 
     // The first method of the name in the row.
-    pub(crate) fn method_of(&self, owner: CellRow, name: &[u8]) -> Option<usize>
+    pub fn method_of(&self, owner: CellRow, name: &[u8]) -> Option<usize>
         ensures { result ≡ position (λ (m : _). same_row m.owner owner && is_name self.now.text.now m.name name.now) (contents self.now.outline.now).methods }
     {
         let methods = self.outline.methods.as_slice();

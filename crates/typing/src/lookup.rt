@@ -1,4 +1,4 @@
-ghost use Rattle.std.specs.Prelude.{◌≡◌, ◌&&◌, ◌==◌, count_by, take};
+ghost use Rattle.std.specs.Prelude.{◌≡◌, ◌&&◌, ◌==◌, count_by, position, take};
 ghost use Rattle.words.specs.Names.{is_name};
 ghost use Rattle.declarations.specs.Descending.{same_row};
 ghost use Rattle.outline.specs.Contents.{contents};
@@ -8,7 +8,7 @@ ghost use Rattle.typing.specs.Lookup.{in_line, class_named, relationship_named, 
 use crate::typer::Typer;
 use declarations::source::Source;
 use descent::members::nearest;
-use outline::entry::{Field, Method, Variable};
+use outline::entry::{Field, Variable};
 use values::types::{CellRow, Kind, Lineage, Ty};
 
 // The number of a row, if it is of the line.
@@ -59,16 +59,22 @@ fn is_variable(source: &Source<'_>, variable: Variable, method: usize, name: &[u
     variable.method == method && source.spells(variable.name, name)
 }
 
-// The first variable of the method that has the name at a place.
-#[tactic(auto, using(tables::proofs::Chains::position_all), unfolding(crate::specs::Lookup::variable_named))]
-pub(crate) fn variable_named(source: &Source<'_>, method: usize, place: usize) -> Option<usize>
-    ensures { result ≡ variable_named source.now.text.now (contents source.now.outline.now) method place }
+// The first variable of the method that has the name.
+fn variable_called(source: &Source<'_>, method: usize, name: &[u8]) -> Option<usize>
+    ensures { result ≡ position (λ (v : _). v.method == method && is_name source.now.text.now v.name name.now) (contents source.now.outline.now).variables }
 {
-    let name = source.name_at(place);
     let variables = source.outline.variables.as_slice();
     variables
         .iter()
         .position(|variable| is_variable(source, *variable, method, name))
+}
+
+// The same of the name at a place.
+#[tactic(auto, using(tables::proofs::Chains::position_all), unfolding(crate::specs::Lookup::variable_named))]
+pub(crate) fn variable_named(source: &Source<'_>, method: usize, place: usize) -> Option<usize>
+    ensures { result ≡ variable_named source.now.text.now (contents source.now.outline.now) method place }
+{
+    variable_called(source, method, source.name_at(place))
 }
 
 // How many of the first i variables are of the method.
@@ -99,10 +105,9 @@ fn is_field(source: &Source<'_>, field: Field, row: CellRow, name: &[u8]) -> boo
     field.owner == row && source.spells(field.name, name)
 }
 
-// The first field of a row that has the name.
-#[tactic(auto, using(tables::proofs::Chains::position_all), unfolding(crate::specs::Lookup::field_of))]
-fn field_of(source: &Source<'_>, row: CellRow, name: &[u8]) -> Option<usize>
-    ensures { result ≡ field_of source.now.text.now (contents source.now.outline.now) row.lineage name.now row.number }
+// The first field that is declared in the row and has the name.
+fn field_called(source: &Source<'_>, row: CellRow, name: &[u8]) -> Option<usize>
+    ensures { result ≡ position (λ (f : _). same_row f.owner row && is_name source.now.text.now f.name name.now) (contents source.now.outline.now).fields }
 {
     let fields = source.outline.fields.as_slice();
     fields
@@ -110,23 +115,19 @@ fn field_of(source: &Source<'_>, row: CellRow, name: &[u8]) -> Option<usize>
         .position(|field| is_field(source, *field, row, name))
 }
 
-// Whether the method is declared in the row and has the name.
-#[tactic(auto, using(declarations::proofs::Same::row_is))]
-fn is_method(source: &Source<'_>, method: Method, row: CellRow, name: &[u8]) -> bool
-    ensures { result ≡ (same_row method.owner row && is_name source.now.text.now method.name name.now) }
+#[tactic(auto, using(tables::proofs::Chains::position_all), unfolding(crate::specs::Lookup::field_of))]
+fn field_of(source: &Source<'_>, row: CellRow, name: &[u8]) -> Option<usize>
+    ensures { result ≡ field_of source.now.text.now (contents source.now.outline.now) row.lineage name.now row.number }
 {
-    method.owner == row && source.spells(method.name, name)
+    field_called(source, row, name)
 }
 
-// The first method of a row that has the name.
+// The first method that is declared in the row and has the name.
 #[tactic(auto, using(tables::proofs::Chains::position_all), unfolding(crate::specs::Lookup::method_of_row))]
 fn method_of(source: &Source<'_>, row: CellRow, name: &[u8]) -> Option<usize>
     ensures { result ≡ method_of_row source.now.text.now (contents source.now.outline.now) row.lineage name.now row.number }
 {
-    let methods = source.outline.methods.as_slice();
-    methods
-        .iter()
-        .position(|method| is_method(source, *method, row, name))
+    source.method_of(row, name)
 }
 
 impl<'a> Typer<'a> {

@@ -1,12 +1,11 @@
-ghost use Rattle.std.specs.Prelude.{◌≡◌, ◌<◌, cond};
+ghost use Rattle.std.specs.Prelude.{◌≡◌, cond};
 ghost use Rattle.std.specs.List.{slice_get};
 ghost use Rattle.outline.specs.Contents.{contents};
-ghost use Rattle.values.specs.declared.types.Ty.{Ty};
 ghost use Rattle.values.specs.Fits.{fits_to};
 ghost use Rattle.values.specs.Types.{row_type};
 ghost use Rattle.values.specs.declared.types.Lineage.TheVariants.{Relationship};
 ghost use Rattle.declarations.specs.Resolved.{declared};
-ghost use Rattle.typing.specs.Typing.{Ruled, ruled, faulty, one, two, type_of_row, set_of_row, this_ruling, variable_ruling, new_ruling, partners_ruling, field_ruling, member_ruling, instances_ruling, from_ruling, to_ruling, comparable, compare_ruling, set_variable_ruling, set_field_ruling, set_member_ruling, pair_named, add_ruling, rem_ruling, call_ruling, is_boolean, branch_ruling, return_ruling, ruling_of};
+ghost use Rattle.typing.specs.Typing.{ruled, faulty, type_of_row, set_of_row, this_ruling, variable_ruling, new_ruling, partners_ruling, field_ruling, member_ruling, instances_ruling, from_ruling, to_ruling, comparable, compare_ruling, set_variable_ruling, set_field_ruling, set_member_ruling, pair_named, add_ruling, rem_ruling, call_ruling, is_boolean, branch_ruling, return_ruling, ruling_of};
 
 use crate::lookup::{
     class_named, relationship_named, relationship_of, variable_named, variable_number,
@@ -64,32 +63,6 @@ fn relationship_type(r: u8) -> Ty
     ensures { result ≡ row_type Relationship r }
 {
     Ty::of_row(Lineage::Relationship, r)
-}
-
-// What the rule says of a node with one part; a node whose part has no type waits.
-fn one<F: FnOnce(Ty) -> Option<Ruling>>(part: Option<Ty>, rule: F) -> Option<Ruling>
-    requires { F.IsAlwaysCallable rule }
-    ensures { (f : Ty → Ruled) → ((s : Ty) (r : Ruled) → s.row < 256 → F.post rule s r → r ≡ f s) → result ≡ one part f }
-{
-    match part {
-        None => Some(Ruling::Waits),
-        Some(s) => rule(s),
-    }
-}
-
-// The same of a node with two parts.
-fn two<F: FnOnce(Ty, Ty) -> Option<Ruling>>(
-    left: Option<Ty>,
-    right: Option<Ty>,
-    rule: F,
-) -> Option<Ruling>
-    requires { F.IsAlwaysCallable rule }
-    ensures { (f : Ty → Ty → Ruled) → ((s t : Ty) (r : Ruled) → s.row < 256 → t.row < 256 → F.post rule s t r → r ≡ f s t) → result ≡ two left right f }
-{
-    match (left, right) {
-        (Some(s), Some(t)) => rule(s, t),
-        _ => Some(Ruling::Waits),
-    }
 }
 
 impl<'a> Typer<'a> {
@@ -278,28 +251,28 @@ impl<'a> Typer<'a> {
     pub fn rule(&self, node: Node, left: Option<Ty>, right: Option<Ty>) -> Option<Ruling>
         ensures { result ≡ ruling_of self.now.source.text.now (contents self.now.source.outline.now) (declared self.now.declarations.now) node left right }
     {
-        match node.shape {
-            Shape::Variable(name) => self.variable_rule(node.method, name),
-            Shape::True => Some(Ruling::Typed(Ty::boolean(), Step::Truth(true))),
-            Shape::False => Some(Ruling::Typed(Ty::boolean(), Step::Truth(false))),
-            Shape::Null => Some(Ruling::Typed(Ty::null(), Step::Null)),
-            Shape::This => self.this_rule(node.method),
-            Shape::New(name) => self.new_rule(name),
-            Shape::Add(name) => two(left, right, |s, t| self.add_rule(name, s, t)),
-            Shape::Rem(name) => two(left, right, |s, t| self.rem_rule(name, s, t)),
-            Shape::Member(name) => one(left, |s| self.member_rule(s, name)),
-            Shape::Call(name) => two(left, right, |s, t| self.call_rule(s, name, t)),
-            Shape::Instances(name) => one(left, |s| self.instances_rule(s, name)),
-            Shape::From => one(left, |s| self.from_rule(s)),
-            Shape::To => one(left, |s| self.to_rule(s)),
-            Shape::Equal => two(left, right, compare_rule),
-            Shape::SetVariable(name) => {
-                one(right, |t| self.set_variable_rule(node.method, name, t))
-            }
-            Shape::SetMember(name) => two(left, right, |s, t| self.set_member_rule(s, name, t)),
-            Shape::Action => one(left, |_| Some(Ruling::Done(Step::Drop))),
-            Shape::Branch => one(left, branch_rule),
-            Shape::Return => one(left, |s| self.return_rule(node.method, s)),
+        match (node.shape, left, right) {
+            (Shape::Variable(name), _, _) => self.variable_rule(node.method, name),
+            (Shape::True, _, _) => Some(Ruling::Typed(Ty::boolean(), Step::Truth(true))),
+            (Shape::False, _, _) => Some(Ruling::Typed(Ty::boolean(), Step::Truth(false))),
+            (Shape::Null, _, _) => Some(Ruling::Typed(Ty::null(), Step::Null)),
+            (Shape::This, _, _) => self.this_rule(node.method),
+            (Shape::New(name), _, _) => self.new_rule(name),
+            (Shape::Add(name), Some(s), Some(t)) => self.add_rule(name, s, t),
+            (Shape::Rem(name), Some(s), Some(t)) => self.rem_rule(name, s, t),
+            (Shape::Member(name), Some(s), _) => self.member_rule(s, name),
+            (Shape::Call(name), Some(s), Some(t)) => self.call_rule(s, name, t),
+            (Shape::Instances(name), Some(s), _) => self.instances_rule(s, name),
+            (Shape::From, Some(s), _) => self.from_rule(s),
+            (Shape::To, Some(s), _) => self.to_rule(s),
+            (Shape::Equal, Some(s), Some(t)) => compare_rule(s, t),
+            (Shape::SetVariable(name), _, Some(t)) => self.set_variable_rule(node.method, name, t),
+            (Shape::SetMember(name), Some(s), Some(t)) => self.set_member_rule(s, name, t),
+            (Shape::Action, Some(_), _) => Some(Ruling::Done(Step::Drop)),
+            (Shape::Branch, Some(s), _) => branch_rule(s),
+            (Shape::Return, Some(s), _) => self.return_rule(node.method, s),
+            // a part has no type
+            _ => Some(Ruling::Waits),
         }
     }
 }
