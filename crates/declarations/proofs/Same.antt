@@ -1,5 +1,5 @@
 -- Equality of lineages, rows and kinds, as definitions test it.
-use Rattle.std.proofs.Common.{◌≡◌, Bool, true, false, Decides, refl, sym, subst, ap}
+use Rattle.std.proofs.Common.{◌≡◌, Bool, true, false, Decides, refl, subst, ap}
 use Rattle.std.specs.Bool.{one_answer}
 use Rattle.std.proofs.lemmas.Bool.{both_ways, and_parts, and_from, eqb-true, eq-eqb}
 use Rattle.values.specs.declared.types.Lineage.{Lineage}

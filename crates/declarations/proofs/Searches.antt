@@ -1,5 +1,5 @@
 -- Chains over a table's items, as the searches that definitions speak of.
-use Rattle.std.proofs.Common.{◌≡◌, ℕ, zero, suc, Bool, true, false, cond, ◌||◌, ltb, List, length, Some, None, Option, sym, refl, ap, ◌∙◌, ltb-false, MatchOption}
+use Rattle.std.proofs.Common.{◌≡◌, ℕ, zero, suc, Bool, true, false, cond, ◌||◌, ltb, List, length, Some, None, Option, refl, ap, ◌∙◌, ltb-false, MatchOption}
 use Rattle.std.specs.Prelude.{position, nat_eq}
 use Rattle.std.specs.List.{find, slice_get, position_or_len}
 use Rattle.std.specs.Option.{is_some}

@@ -1,5 +1,5 @@
 -- What a name means as a row, and a written type as a type.
-use Rattle.std.specs.Prelude.{ℕ, ◌+◌, Bool, false, cond, List, length, Some, None, codes, Option}
+use Rattle.std.specs.Prelude.{ℕ, ◌+◌, Bool, cond, List, length, Some, None, codes, Option}
 use Rattle.std.specs.List.{slice_get}
 use Rattle.std.specs.Str.{bytes_eq}
 use Rattle.words.specs.Names.{name_at, is_name}
@@ -13,7 +13,7 @@ use Rattle.values.specs.Types.{boolean, row_type, set_type}
 use Rattle.outline.specs.declared.entry.Row.{Row}
 use Rattle.outline.specs.Contents.{Contents}
 use Rattle.tables.specs.Below.{first_below, or_else}
-use Rattle.tables.specs.Items.{given, holds}
+use Rattle.tables.specs.Items.{holds}
 
 -- row n of a line
 abbrev pub row : Lineage → ℕ → CellRow

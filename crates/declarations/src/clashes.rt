@@ -8,7 +8,7 @@ ghost use Rattle.declarations.specs.Descending.{same_row, upward};
 ghost use Rattle.declarations.specs.Clashes.{field_alike, relationship_name, field_clashes_place, method_alike, method_twice_place, variable_alike, variable_twice_place, first_clash};
 
 use crate::descending::upward;
-use crate::source::Source;
+use crate::source::{RELATION, Source};
 use outline::entry::{Field, Method, Variable};
 use tables::search::lesser_of;
 use values::lines::Lines;

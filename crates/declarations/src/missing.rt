@@ -15,10 +15,10 @@ impl<'a> Source<'a> {
     fn first_parent_missing(&self, lineage: Lineage) -> Option<usize>
         ensures { result ≡ least_below (parent_missing_place self.now.text.now (contents self.now.outline.now) lineage) (length (rows_of (contents self.now.outline.now) lineage)) }
     {
-        self.rows(lineage).least(|i, row| self
-            .parent(lineage, i, row)
-            .is_none()
-            .then_some(row.parent))
+        self.rows(lineage).least(|i, row| {
+            let parent = self.parent(lineage, i, row);
+            parent.is_none().then_some(row.parent)
+        })
     }
 
     // The place, where the name there is that of no row.

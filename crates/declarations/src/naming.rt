@@ -6,14 +6,14 @@ ghost use Rattle.tables.specs.Below.{least_below};
 ghost use Rattle.declarations.specs.Naming.{root_name, taken, name_taken_place, first_taken};
 ghost use Rattle.declarations.specs.Rows.{rows_of};
 
-use crate::source::Source;
+use crate::source::{OBJECT, RELATION, Source};
 use tables::search::lesser_of;
 use values::types::Lineage;
 
 fn is_root(name: &[u8]) -> bool
     ensures { result ≡ root_name name.now }
 {
-    name == b"Object".as_slice() || name == b"Relation".as_slice()
+    name == OBJECT || name == RELATION
 }
 
 impl<'a> Source<'a> {
@@ -39,9 +39,10 @@ impl<'a> Source<'a> {
     fn first_taken_of(&self, lineage: Lineage) -> Option<usize>
         ensures { result ≡ least_below (name_taken_place self.now.text.now (contents self.now.outline.now) lineage) (length (rows_of (contents self.now.outline.now) lineage)) }
     {
-        self.rows(lineage).least(|_, row| self
-            .is_taken(self.name_at(row.name), row.name)
-            .then_some(row.name))
+        self.rows(lineage).least(|_, row| {
+            let taken = self.is_taken(self.name_at(row.name), row.name);
+            taken.then_some(row.name)
+        })
     }
 
     // The place of the first name that is taken.

@@ -1,5 +1,8 @@
-ghost use Rattle.std.specs.Prelude.{◌≡◌};
+ghost use Rattle.std.specs.Prelude.{◌≡◌, Some, ◌++◌, ◌∷◌};
+ghost use Rattle.std.specs.Fmt.{decimal};
 ghost use Rattle.declarations.specs.Faults.{number_of, place_of};
+
+use std::fmt;
 
 // Why declarations are refused, and at which place.
 #[derive(Clone, Copy, PartialEq, Eq, Debug)]
@@ -42,5 +45,16 @@ impl Misdeclared {
             | Misdeclared::TooManyFields(place) => place,
             Misdeclared::NoMain => 0,
         }
+    }
+}
+
+// The refusal's number and its place, with a space between them.
+impl fmt::Display for Misdeclared {
+    ghost output = { λ m. Some (decimal (number_of m) ++ 32 ∷ decimal (place_of m)) };
+
+    fn fmt<W: fmt::Write>(&self, f: &mut fmt::Formatter<W>) -> fmt::Result {
+        let number = self.number();
+        let place = self.place();
+        write!(f, "{number} {place}")
     }
 }

@@ -10,6 +10,11 @@ use outline::entry::Row;
 use tables::table::Table;
 use values::types::{CellRow, Lineage, Ty};
 
+// The names of the roots of the two lines.
+pub(crate) const OBJECT: &[u8] = b"Object";
+
+pub(crate) const RELATION: &[u8] = b"Relation";
+
 // A text, and the tables of what it declares.
 #[derive(Clone, Copy)]
 pub struct Source<'a> {
@@ -67,10 +72,10 @@ impl<'a> Source<'a> {
     pub fn row_called(&self, name: &[u8]) -> Option<CellRow>
         ensures { result ≡ row_called self.now.text.now (contents self.now.outline.now) name.now }
     {
-        if name == b"Object".as_slice() {
+        if name == OBJECT {
             return Some(CellRow::default());
         }
-        if name == b"Relation".as_slice() {
+        if name == RELATION {
             return Some(CellRow {
                 lineage: Lineage::Relationship,
                 number: 0,

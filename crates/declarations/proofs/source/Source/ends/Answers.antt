@@ -1,6 +1,5 @@
-use Rattle.std.proofs.Common.{◌≡◌, ◌<◌, ◌+◌, length, ap, arith}
+use Rattle.std.proofs.Common.{◌+◌, length, ap, arith}
 use Rattle.outline.specs.Contents.{contents}
-use Rattle.tables.specs.Listed.{listed}
 use Rattle.tables.specs.Below.{tabulated}
 use Rattle.tables.proofs.Laws.{few_listed, turns}
 use Rattle.declarations.specs.Resolved.{ends_of}

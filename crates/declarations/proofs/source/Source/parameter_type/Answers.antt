@@ -1,6 +1,5 @@
-use Rattle.std.proofs.Common.{rules, ◌∙◌}
+use Rattle.std.proofs.Common.{rules}
 use Rattle.outline.specs.Contents.{contents}
-use Rattle.declarations.specs.Resolved.{type_or}
 use Rattle.declarations.proofs.Searches.{found_type}
 use Rattle.declarations.proofs.source.Source.parameter_type.Goals as goal
 
