@@ -1,34 +1,17 @@
-ghost use Rattle.std.specs.Prelude.{◌≡◌, Decides};
+ghost use Rattle.std.specs.Prelude.{◌≡◌};
 ghost use Rattle.values.specs.Admits.{Initially, initial_of};
 ghost use Rattle.values.specs.Types.{boolean, null_type, row_type, set_type};
 
-use super::{Kind, Lineage, Ty};
+use super::{CellRow, Kind, Lineage, Ty};
 use crate::value::Value;
 use cells::CellSet;
 
-impl Lineage {
-    pub fn same(self, other: Lineage) -> bool
-        ensures { Decides result (self ≡ other) }
+impl CellRow {
+    // A row of a line, by its number.
+    pub const fn new(lineage: Lineage, number: u8) -> CellRow
+        ensures { result ≡ record { lineage = lineage; number = number } }
     {
-        match (self, other) {
-            (Lineage::Class, Lineage::Class) => true,
-            (Lineage::Relationship, Lineage::Relationship) => true,
-            _ => false,
-        }
-    }
-}
-
-impl Kind {
-    pub fn same(self, other: Kind) -> bool
-        ensures { Decides result (self ≡ other) }
-    {
-        match (self, other) {
-            (Kind::Boolean, Kind::Boolean) => true,
-            (Kind::Null, Kind::Null) => true,
-            (Kind::Row(a), Kind::Row(b)) => a.same(b),
-            (Kind::Set(a), Kind::Set(b)) => a.same(b),
-            _ => false,
-        }
+        CellRow { lineage, number }
     }
 }
 
@@ -85,12 +68,6 @@ impl Ty {
         self.row
     }
 
-    pub fn same(self, other: Ty) -> bool
-        ensures { Decides result (self ≡ other) }
-    {
-        other.kind.same(self.kind) && self.row == other.row
-    }
-
     // What a variable or field of this type begins with: false, null or the empty set.
     pub fn initial(self) -> Value
         ensures value { result ≡ initial_of self.kind }
@@ -98,8 +75,7 @@ impl Ty {
     {
         match self.kind {
             Kind::Boolean => Value::Truth(false),
-            Kind::Null => Value::Null,
-            Kind::Row(_) => Value::Null,
+            Kind::Null | Kind::Row(_) => Value::Null,
             Kind::Set(_) => Value::Set(CellSet::empty()),
         }
     }
