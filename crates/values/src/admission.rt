@@ -52,6 +52,7 @@ impl<'a, R: CellRows> Fitting<'a, R> {
 }
 
 // Whether a variable or field of type `t` may hold the value.
+#[tactic(auto, using(crate::proofs::Members::admits_told))]
 pub fn admits<R: CellRows>(lines: &Lines, cells: &R, t: Ty, value: Value) -> bool
     ensures relation { Decides result (Admits (ancestry lines.now) (R.CellRows.rows cells.now) t value) }
     ensures same { result ≡ admits_to (ancestry lines.now) (R.CellRows.rows cells.now) t.kind t.row value }

@@ -16,6 +16,7 @@ impl CellRow {
 }
 
 impl Ty {
+    #[tactic(auto, using(crate::proofs::SameType::ty_same))]
     pub fn boolean() -> Ty
         ensures { result ≡ boolean }
     {
@@ -26,6 +27,7 @@ impl Ty {
     }
 
     // The type of the literal null.
+    #[tactic(auto, using(crate::proofs::SameType::ty_same))]
     pub fn null() -> Ty
         ensures { result ≡ null_type }
     {
@@ -36,6 +38,7 @@ impl Ty {
     }
 
     // A row of a line.
+    #[tactic(auto, using(crate::proofs::SameType::ty_same))]
     pub fn of_row(lineage: Lineage, row: u8) -> Ty
         ensures { result ≡ row_type lineage row }
     {
@@ -46,6 +49,7 @@ impl Ty {
     }
 
     // The sets of a row.
+    #[tactic(auto, using(crate::proofs::SameType::ty_same))]
     pub fn set_of(lineage: Lineage, row: u8) -> Ty
         ensures { result ≡ set_type lineage row }
     {
@@ -69,6 +73,7 @@ impl Ty {
     }
 
     // What a variable or field of this type begins with: false, null or the empty set.
+    #[tactic(auto, using(crate::proofs::Admitting::initially))]
     pub fn initial(self) -> Value
         ensures value { result ≡ initial_of self.kind }
         ensures admitted { Initially self result }
