@@ -12,16 +12,10 @@ pub enum Value {
 }
 
 impl Value {
-    // Whether the two are the same value.
+    // Whether the two are the same value: what the derived `==` promises, as a clause.
     pub fn same(self, other: Value) -> bool
         ensures { Decides result (self ≡ other) }
     {
-        match (self, other) {
-            (Value::Truth(a), Value::Truth(b)) => a == b,
-            (Value::Null, Value::Null) => true,
-            (Value::Cell(a), Value::Cell(b)) => a == b,
-            (Value::Set(a), Value::Set(b)) => a.same_members(b),
-            _ => false,
-        }
+        self == other
     }
 }
