@@ -1,18 +1,23 @@
-ghost use Rattle.std.specs.Prelude.{◌≡◌};
+ghost use Rattle.std.specs.Prelude.{◌≡◌, drop};
 ghost use Rattle.words.specs.Names.{name_at, is_name, same_name};
 
-use crate::bytes::{NameBytes, run_of};
+use crate::bytes::name_bytes;
 use crate::spelling::same;
 
+// The text from a place on.
+fn from_place(text: &[u8], place: usize) -> &[u8]
+    ensures { result.now ≡ drop place text.now }
+{
+    text.get(place..).unwrap_or_default()
+}
+
 // The name at a place: all letters, digits and underscores from there on.
+#[tactic(auto, unfolding(crate::specs::Names::name_at))]
 pub fn name_at<'a>(text: &'a [u8], place: usize) -> &'a [u8]
     ensures { result.now ≡ name_at text.now place }
 {
-    if place >= text.len() {
-        return &text[0..0];
-    }
-    let rest = &text[place..];
-    &rest[0..run_of::<NameBytes>(rest)]
+    let rest = from_place(text, place);
+    &rest[..name_bytes(rest)]
 }
 
 // Whether the name at a place is spelled by these bytes.

@@ -19,19 +19,13 @@ pub(crate) struct Nesting {
 fn is_opener(kind: Kind) -> bool
     ensures { result ≡ opens kind }
 {
-    match kind {
-        Kind::OpenParen | Kind::OpenBrace => true,
-        _ => false,
-    }
+    matches!(kind, Kind::OpenParen | Kind::OpenBrace)
 }
 
 fn is_closer(kind: Kind) -> bool
     ensures { result ≡ closes kind }
 {
-    match kind {
-        Kind::CloseParen | Kind::CloseBrace => true,
-        _ => false,
-    }
+    matches!(kind, Kind::CloseParen | Kind::CloseBrace)
 }
 
 impl Nesting {

@@ -30,8 +30,7 @@ impl Unreadable {
     {
         match self {
             Unreadable::TooLong => 0,
-            Unreadable::NotAllowed { place } => place,
-            Unreadable::TooDeep { place } => place,
+            Unreadable::NotAllowed { place } | Unreadable::TooDeep { place } => place,
         }
     }
 }

@@ -3,7 +3,7 @@ ghost use Rattle.std.specs.Str.{bytes_eq};
 ghost use Rattle.words.specs.declared.bytes.Begins.TheVariants.{Sign};
 ghost use Rattle.words.specs.Spelling.{among, keywords, of_size, named, begun, front_of};
 
-use crate::bytes::{Begins, NameBytes, begun_by, run_of};
+use crate::bytes::{Begins, begun_by, name_bytes};
 use crate::kind::Kind;
 
 // The longest name, in bytes.
@@ -118,7 +118,7 @@ fn sign_front(kind: Kind, s: &[u8]) -> Front
     ensures { result ≡ begun (Sign kind) s.now }
 {
     match s {
-        [_, b'=', ..] if kind.is(Kind::Assign) => Front {
+        [_, b'=', ..] if kind == Kind::Assign => Front {
             kind: Kind::Equal,
             size: 2,
         },
@@ -130,12 +130,10 @@ fn sign_front(kind: Kind, s: &[u8]) -> Front
 pub(crate) fn front_of(s: &[u8]) -> Option<Front>
     ensures { result ≡ front_of s.now }
 {
-    if s.is_empty() {
-        return None;
-    }
-    Some(match begun_by(s[0]) {
+    let first = *s.first()?;
+    Some(match begun_by(first) {
         Begins::Name => {
-            let size = run_of::<NameBytes>(s);
+            let size = name_bytes(s);
             Front {
                 kind: name_kind(&s[0..size]),
                 size,

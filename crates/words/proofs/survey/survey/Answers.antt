@@ -12,7 +12,7 @@ pub returns-then-is : goal.returns-then-is
 returns-then-is c =
     let short : length c.args.text.now ≤ 32768 = omega arith in
     let rest = unread c.next.new.self in
-    sym (surveyed_short c.args.text.now short ∙ sym c.loop-word.invariant.0 ∙ ap (conclude c.loop-word.nesting c.loop-word.words) c.in-Some.ensures
+    sym (surveyed_short c.args.text.now short ∙ sym c.loop-word.invariant.0 ∙ ap (conclude c.loop-word.nesting c.loop-word.words) c.in-Some.ensures.steps
     ∙ conclude_fault c.loop-word.nesting c.loop-word.words (told c.in-Some.word) rest (sym c.if-is.ensures))
 
 pub pass-requires : goal.pass-requires
@@ -27,7 +27,7 @@ loop-word-preserved c =
     let n = c.loop-word.nesting in
     let k = c.loop-word.words in
     let rest = unread c.next.new.self in
-    let read = c.in-Some.ensures in
+    let read = c.in-Some.ensures.steps in
     let passes = c.pass.ensures in
     let step = sym (conclude_word n k w rest (sym c.if-is.ensures) c.loop-word.invariant.3) ∙ sym (ap (conclude n k) read) ∙ c.loop-word.invariant.0 in (
       ap (λ m. conclude m (k + 1) rest) passes ∙ step,
@@ -41,7 +41,7 @@ returns-in-Some-over c =
     let short : length c.args.text.now ≤ 32768 = omega arith in
     let n = c.loop-word.nesting in
     let k = c.loop-word.words in
-    sym (surveyed_short c.args.text.now short ∙ sym c.loop-word.invariant.0 ∙ ap (conclude n k) c.in_default.ensures.0
+    sym (surveyed_short c.args.text.now short ∙ sym c.loop-word.invariant.0 ∙ ap (conclude n k) c.in_default.ensures.steps.0
     ∙ conclude_none n k c.loop-word.invariant.3 ∙ ap (λ o. refused_at o TooDeep (Ok (extent k n.most))) c.in-Some-over.is)
 
 pub returns-in-None : goal.returns-in-None
@@ -49,5 +49,5 @@ returns-in-None c =
     let short : length c.args.text.now ≤ 32768 = omega arith in
     let n = c.loop-word.nesting in
     let k = c.loop-word.words in
-    sym (surveyed_short c.args.text.now short ∙ sym c.loop-word.invariant.0 ∙ ap (conclude n k) c.in_default.ensures.0
+    sym (surveyed_short c.args.text.now short ∙ sym c.loop-word.invariant.0 ∙ ap (conclude n k) c.in_default.ensures.steps.0
     ∙ conclude_none n k c.loop-word.invariant.3 ∙ ap (λ o. refused_at o TooDeep (Ok (extent k n.most))) c.in-None.is)
