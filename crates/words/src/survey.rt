@@ -23,21 +23,20 @@ pub fn survey(text: &[u8]) -> Result<Extent, Unreadable>
     if text.len() > LONGEST_TEXT {
         return Err(Unreadable::TooLong);
     }
-    let mut cursor = Cursor::new(text);
     let mut nesting = Nesting::none();
     let mut words = 0;
-    while let Some(word) = cursor.next() {
-        if word.kind.is(Kind::Fault) {
+    for word in Cursor::new(text) {
+        if word.kind == Kind::Fault {
             return Err(Unreadable::NotAllowed { place: word.place });
         }
         nesting.pass(word.kind, word.place);
         words += 1;
     }
-    match nesting.over {
-        Some(place) => Err(Unreadable::TooDeep { place }),
-        None => Ok(Extent {
-            words,
-            depth: nesting.most,
-        }),
+    if let Some(place) = nesting.over {
+        return Err(Unreadable::TooDeep { place });
     }
+    Ok(Extent {
+        words,
+        depth: nesting.most,
+    })
 }
