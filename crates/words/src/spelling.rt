@@ -1,19 +1,12 @@
-ghost use Rattle.std.specs.Prelude.{◌≡◌, nat_eq, nat_lt};
-ghost use Rattle.std.specs.Str.{bytes_eq};
+ghost use Rattle.std.specs.Prelude.{◌≡◌};
 ghost use Rattle.words.specs.declared.bytes.Begins.TheVariants.{Sign};
-ghost use Rattle.words.specs.Spelling.{among, keywords, of_size, named, begun, front_of};
+ghost use Rattle.words.specs.Spelling.{among, keywords, named, begun, front_of};
 
 use crate::bytes::{Begins, begun_by, name_bytes};
 use crate::kind::Kind;
 
 // The longest name, in bytes.
 const LONGEST_NAME: usize = 31;
-
-pub(crate) fn same(a: &[u8], b: &[u8]) -> bool
-    ensures { result ≡ bytes_eq a.now b.now }
-{
-    a == b
-}
 
 // The keyword that these bytes spell, else a name.
 fn keyword_or_name(bytes: &[u8]) -> Kind
