@@ -10,7 +10,7 @@ use crate::refusal::Unreadable;
 pub const LONGEST_TEXT: usize = 32_768;
 
 // A text's words and brackets: how many words, and how deep the brackets go.
-#[derive(Clone, Copy, Debug)]
+#[derive(Clone, Copy, PartialEq, Eq, Debug)]
 pub struct Extent {
     pub words: usize,
     pub depth: usize,
