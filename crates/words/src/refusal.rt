@@ -44,9 +44,7 @@ impl fmt::Display for Unreadable {
     ghost output = { λ r. Some (decimal (number_of r) ++ 32 ∷ decimal (place_of r)) };
 
     fn fmt<W: fmt::Write>(&self, f: &mut fmt::Formatter<W>) -> fmt::Result {
-        let number = self.number();
-        let place = self.place();
-        write!(f, "{number} {place}")
+        write!(f, "{} {}", self.number(), self.place())
     }
 }
 

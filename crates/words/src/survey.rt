@@ -23,7 +23,7 @@ pub fn survey(text: &[u8]) -> Result<Extent, Unreadable>
     if text.len() > LONGEST_TEXT {
         return Err(Unreadable::TooLong);
     }
-    let mut nesting = Nesting::none();
+    let mut nesting = Nesting::default();
     let mut words = 0;
     for word in Cursor::new(text) {
         if word.kind == Kind::Fault {
