@@ -40,7 +40,10 @@ pub(crate) fn name_bytes(s: &[u8]) -> usize
     ensures is { result ≡ prefix_len name_byte s.now }
     ensures within { result ≤ length s.now }
 {
-    run_of(s, |b| matches!(b, b'a'..=b'z' | b'A'..=b'Z' | b'_' | b'0'..=b'9'))
+    run_of(
+        s,
+        |b| matches!(b, b'a'..=b'z' | b'A'..=b'Z' | b'_' | b'0'..=b'9'),
+    )
 }
 
 // What the byte begins.
