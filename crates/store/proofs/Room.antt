@@ -36,13 +36,13 @@ room_lasts m =
     }
 
 -- the test, one limit after the other
-pub room_then : (m : Model) (k s a b x y : ℕ) → a ≡ length m.cells → b ≡ m.cell_limit → x ≡ slots_of m → y ≡ m.slot_limit → a + k ≤ b → leb (x + s) y ≡ has_room m k s
+pub room_then : (m : Model) (k s x y : ℕ) → length m.cells + k ≤ m.cell_limit → x ≡ slots_of m + s → y ≡ m.slot_limit → leb x y ≡ has_room m k s
 unfolding has_room
-room_then m k s a b x y e f g h l = let t = le-leb (length m.cells + k) m.cell_limit (omega arith) in simp (t, g, h)
+room_then m k s x y h e f = let t = le-leb (length m.cells + k) m.cell_limit h in simp (t, e, f)
 
-pub room_else : (m : Model) (k s a b : ℕ) → a ≡ length m.cells → b ≡ m.cell_limit → b < a + k → leb (a + k) b ≡ has_room m k s
+pub room_else : (m : Model) (k s x y : ℕ) → m.cell_limit < length m.cells + k → y < x → leb x y ≡ has_room m k s
 unfolding has_room
-room_else m k s a b e f l =
-    let t = lt-leb (length m.cells + k) m.cell_limit (omega arith) in
-    let u = lt-leb (a + k) b l in
+room_else m k s x y h l =
+    let t = lt-leb (length m.cells + k) m.cell_limit h in
+    let u = lt-leb x y l in
     simp (t, u)

@@ -26,7 +26,7 @@ pub fn has_room<S: Store>(store: &S, cells: u8, slots: u16) -> bool
     ensures test { result ≡ has_room (S.Store.model store.now) cells slots }
     ensures lasts { RoomLasts (S.Store.model store.now) }
 {
-    let all_cells = store.cells() as u16 + cells as u16;
-    let all_slots = store.slots() as u32 + slots as u32;
-    all_cells <= store.cell_limit() as u16 && all_slots <= store.slot_limit() as u32
+    let all_cells = u16::from(store.cells()) + u16::from(cells);
+    let all_slots = u32::from(store.slots()) + u32::from(slots);
+    all_cells <= u16::from(store.cell_limit()) && all_slots <= u32::from(store.slot_limit())
 }
