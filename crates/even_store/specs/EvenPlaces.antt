@@ -1,5 +1,5 @@
 -- The even store's places as cells.
-use Rattle.std.specs.Prelude.{◌≡◌, ℕ, ◌+◌, ◌*◌, ◌<◌, ◌≤◌, List, [], ◌∷◌, map, length, slice_index_or, sum_by, refl, All}
+use Rattle.std.specs.Prelude.{◌≡◌, ◌*◌, ◌≤◌, List, [], ◌∷◌, length, slice_index_or, sum_by, refl, All}
 use Rattle.std.proofs.Common.{ap, ◌∙◌, arith}
 use Rattle.std.proofs.lemmas.List.{length-map}
 use Rattle.std.proofs.lemmas.List.Elements.{All-map}
@@ -21,6 +21,9 @@ pub used_slots : (s : EvenStore) → slots_of (even_model s) ≡ length s.places
 unfolding slots_of
 used_slots s = let n = used_cells s in eights (even_model s).cells ∙ ap (λ k. k * 8) n
 
+all_few : (ps : List Place) → All (λ p. length (placed p).fields ≤ 8) ps
+all_few ps k d h = (slice_index_or ps k d).few
+
 pub even_lawful : (s : EvenStore) → Lawful (even_model s)
 even_lawful s =
     let n = used_cells s in
@@ -35,5 +38,5 @@ even_lawful s =
       charge_above = λ n h. refl;
       cells_within = omega arith;
       slots_within = omega arith;
-      fields_within = All-map (λ c. length c.fields ≤ 8) placed s.places.items (λ k d h. (slice_index_or s.places.items k d).few);
+      fields_within = All-map (λ c. length c.fields ≤ 8) placed s.places.items (all_few s.places.items);
     }

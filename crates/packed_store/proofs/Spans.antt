@@ -4,8 +4,8 @@ use Rattle.std.proofs.Common.{sym, ap, ◌∙◌, inl, inr, zero-add, arith, len
 use Rattle.std.specs.List.{slice_get}
 use Rattle.std.specs.Option.{option_map}
 use Rattle.std.proofs.lemmas.Bool.{cases_lt}
-use Rattle.std.proofs.lemmas.Option.{slice_get-get_or, slice_get_past}
-use Rattle.std.proofs.lemmas.List.{drop-drop, drop_at, drop-append-le, take_all, take_at, take-append-le, take-set-le, drop-set-lt, drop-set-add, get_or-drop, get_or_push, get_or_append_left, length-replicate, length_push}
+use Rattle.std.proofs.lemmas.Option.{gets, slice_get-get_or, slice_get_past}
+use Rattle.std.proofs.lemmas.List.{drop-drop, drop_at, drop-append-le, take-take, take_all, take_at, take-append-le, take-set-le, drop-set-lt, drop-set-add, get_or-drop, get_or_push, get_or_append_left, length-replicate, length_push}
 use Rattle.std.proofs.lemmas.List.Sums.{sum_by_more, sum_by_push, sum_by-take-le}
 use Rattle.std.proofs.lemmas.List.Elements.{All-push}
 use Rattle.std.proofs.Math.Seq.{take-set-lt}
@@ -19,7 +19,7 @@ use Rattle.store.specs.Model.{StoredCell, changed, head_at, head_in, fields_at, 
 use Rattle.store.proofs.Calls.{no_field, its_field}
 use Rattle.store.proofs.Places.{slice_get-take}
 use Rattle.packed_store.specs.Packed.{Slot, laid, packed_model}
-use Rattle.packed_store.specs.PackedSpans.{laid_length, total, total-cons}
+use Rattle.packed_store.specs.PackedSpans.{laid_length, total, total-cons, used_cells, used_slots}
 
 -- the cell of a span whose slots begin at n
 abbrev pub cut : Span → ℕ → List Value → StoredCell
@@ -71,13 +71,21 @@ laid_front (s ∷ ss) vs ws h =
 abbrev pub nowhere : Span
 nowhere = record { head = Object 0; start = 0; count = 0 }
 
+total_front : (ss : List Span) (j n : ℕ) → j ≤ n → total (take j ss) ≤ total (take n ss)
+total_front ss j n h =
+    let e = take-take j n ss h in
+    let k = sum_by-take-le (λ (s : Span). s.count) (take n ss) j in
+    rw e at k
+
 module _ (s : PackedStore) where
   -- the slots of a cell lie among those of the store
   pub slots_end : (i : ℕ) (d : Span) → i < length s.spans.items → (get_or s.spans.items i d).start + (get_or s.spans.items i d).count ≤ length s.slots.items
   slots_end i d h =
       let b = s.begins i d h in
       let t = sum_by_more (λ (x : Span). x.count) s.spans.items i d h in
-      let m = sum_by-take-le (λ (x : Span). x.count) s.spans.items (i + 1) in
+      let m = total_front s.spans.items (i + 1) (length s.spans.items) (omega arith) in
+      let a = take_all (length s.spans.items) s.spans.items (omega arith) in
+      let m' = rw a at m in
       let f = s.sum in
       omega arith
 
@@ -100,9 +108,9 @@ module _ (s : PackedStore) where
   pub count_of : (i : ℕ) (d : Span) → i < length s.spans.items → length (take (get_or s.spans.items i d).count (drop (get_or s.spans.items i d).start s.slots.items)) ≡ (get_or s.spans.items i d).count
   count_of i d h = let e = slots_end i d h in simp (length-take, length-drop) (omega arith)
 
-  pub field_at_lem : (i f : ℕ) (d : Span) (v : Value) → i < length s.spans.items → f < (get_or s.spans.items i d).count
+  pub field_cut : (i f : ℕ) (d : Span) (v : Value) → i < length s.spans.items → f < (get_or s.spans.items i d).count
       → slice_get (take (get_or s.spans.items i d).count (drop (get_or s.spans.items i d).start s.slots.items)) f ≡ Some (slice_index_or s.slots.items ((get_or s.spans.items i d).start + f) v)
-  field_at_lem i f d v h k =
+  field_cut i f d v h k =
       let n = (get_or s.spans.items i d).start in
       let e = slots_end i d h in
       slice_get-take (drop n s.slots.items) (get_or s.spans.items i d).count f v k (simp length-drop (omega arith)) ∙ ap Some (get_or-drop n s.slots.items f v)
@@ -126,9 +134,9 @@ module _ (s : PackedStore) where
         | inr h ↦ let g = slice_get_past s.spans.items i h in ap fields_in (cell_at i) ∙ simp g
       ]
 
-  pub field_of : (i f : ℕ) → field_at (packed_model s) i f ≡ field_in (option_map cell (slice_get s.spans.items i)) f
+  pub field_at_lem : (i f : ℕ) → field_at (packed_model s) i f ≡ field_in (option_map cell (slice_get s.spans.items i)) f
   unfolding field_at
-  field_of i f = ap (λ o. field_in o f) (cell_at i)
+  field_at_lem i f = ap (λ o. field_in o f) (cell_at i)
 
   pub field_past : (i f : ℕ) (x : Span) → slice_get s.spans.items i ≡ Some x → x.count ≤ f → field_at (packed_model s) i f ≡ Err Field
   field_past i f x there h =
@@ -149,7 +157,7 @@ module _ (s : PackedStore) where
         let g = slice_get-get_or s.spans.items c nowhere w.used in
         rw e
         (its_field (packed_model s) c (cell (get_or s.spans.items c nowhere)) (cell_at c ∙ ap (option_map cell) g) f _
-        (field_at_lem c f nowhere v w.used (w.counted nowhere)))
+        (field_cut c f nowhere v w.used (w.counted nowhere)))
 
     pub slot_cells : (v : Value) → laid s.spans.items (slice_set s.slots.items n v) ≡ changed (packed_model s).cells c f v
     slot_cells v =
@@ -157,6 +165,9 @@ module _ (s : PackedStore) where
         ap (λ m. laid s.spans.items (slice_set s.slots.items m v)) (w.is nowhere ∙ ap (λ m. m + f) b)
         ∙ laid_set s.spans.items s.slots.items c f v nowhere w.used (w.counted nowhere)
 
+pub ruleset answers = (gets, used_cells, used_slots, head_of, count_at, field_at_lem, field_past, slot_end, slot_reads)
+
+module _ (s : PackedStore) where
   -- a span more, whose slots are new and null
   module _ (q : Span) (begins : q.start ≡ length s.slots.items) (small : q.count ≤ 8) where
     pub more_sum : length s.slots.items + q.count ≡ total (s.spans.items ++ (q ∷ []))

@@ -33,6 +33,7 @@ impl Default for Place {
     }
 }
 
+#[tactic(auto, using(crate::proofs::Places::answers))]
 impl Store for EvenStore {
     ghost model = { even_model };
 
@@ -48,7 +49,6 @@ impl Store for EvenStore {
         Ok(cell)
     }
 
-    #[tactic(auto, using(std::proofs::lemmas::Option::gets, crate::proofs::Places::field_of))]
     fn put(&mut self, cell: u8, field: u8, value: Value) -> Result<(), Absent> {
         let place = self.places.get_mut(cell as usize).ok_or(Absent::Cell)?;
         let held = place.fields.get_mut(field as usize).ok_or(Absent::Field)?;
@@ -56,19 +56,16 @@ impl Store for EvenStore {
         Ok(())
     }
 
-    #[tactic(auto, using(std::proofs::lemmas::Option::gets, crate::proofs::Places::head_of))]
     fn head(&self, cell: u8) -> Option<Head> {
         self.places.get(cell as usize).map(|place| place.head)
     }
 
-    #[tactic(auto, using(std::proofs::lemmas::Option::gets, crate::proofs::Places::count_of))]
     fn fields(&self, cell: u8) -> Option<u8> {
         self.places
             .get(cell as usize)
             .map(|place| place.fields.len() as u8)
     }
 
-    #[tactic(auto, using(std::proofs::lemmas::Option::gets, crate::proofs::Places::field_of))]
     fn value(&self, cell: u8, field: u8) -> Result<Value, Absent> {
         let place = self.places.get(cell as usize).ok_or(Absent::Cell)?;
         place

@@ -1,4 +1,4 @@
-ghost use Rattle.std.specs.Prelude.{◌≡◌, ◌+◌, ◌≤◌, ◌++◌, [], length, replicate, Err, MatchResult};
+ghost use Rattle.std.specs.Prelude.{◌≡◌, ◌+◌, ◌<◌, ◌≤◌, ◌++◌, [], length, replicate, Err, IfOk, MatchResult};
 ghost use Rattle.values.specs.declared.value.Value.TheVariants.{Null};
 ghost use Rattle.store.specs.Model.{field_at};
 ghost use Rattle.packed_store.specs.Packed.{Slot, packed, packed_model};
@@ -34,8 +34,10 @@ fn append_nulls(slots: &mut ArrayVec<Value, SLOT_LIMIT>, count: u8)
 
 impl PackedStore {
     // Where a field's slot lies.
+    #[tactic(auto, using(crate::proofs::Spans::answers))]
     fn slot(&self, cell: u8, field: u8) -> Result<usize, Absent>
-        ensures { MatchResult result (Slot self.now cell field) (λ e. field_at (packed_model self.now) cell field ≡ Err e) }
+        ensures place { MatchResult result (Slot self.now cell field) (λ e. field_at (packed_model self.now) cell field ≡ Err e) }
+        ensures within { IfOk result (λ slot. slot < length self.now.slots.items) }
     {
         let span = self.spans.get(cell as usize).ok_or(Absent::Cell)?;
         if field >= span.count {
@@ -45,6 +47,7 @@ impl PackedStore {
     }
 }
 
+#[tactic(auto, using(crate::proofs::Spans::answers))]
 impl Store for PackedStore {
     ghost model = { packed_model };
 
@@ -73,12 +76,10 @@ impl Store for PackedStore {
         Ok(())
     }
 
-    #[tactic(auto, using(std::proofs::lemmas::Option::gets, crate::proofs::Spans::head_of))]
     fn head(&self, cell: u8) -> Option<Head> {
         self.spans.get(cell as usize).map(|span| span.head)
     }
 
-    #[tactic(auto, using(std::proofs::lemmas::Option::gets, crate::proofs::Spans::count_at))]
     fn fields(&self, cell: u8) -> Option<u8> {
         self.spans.get(cell as usize).map(|span| span.count)
     }
@@ -88,12 +89,10 @@ impl Store for PackedStore {
         Ok(self.slots[at])
     }
 
-    #[tactic(auto, using(crate::specs::PackedSpans::used_cells))]
     fn cells(&self) -> u8 {
         self.spans.len() as u8
     }
 
-    #[tactic(auto, using(crate::specs::PackedSpans::used_slots))]
     fn slots(&self) -> u16 {
         self.slots.len() as u16
     }

@@ -1,4 +1,4 @@
-use Rattle.std.proofs.Common.{Ok, ap, sym, ◌∙◌, arith}
+use Rattle.std.proofs.Common.{Ok, ap, ◌∙◌, arith}
 use Rattle.store.proofs.Calls.{refused_fields, refused_cells, refused_slots, makes}
 use Rattle.store.proofs.Store.next_cell.Goals as goal
 

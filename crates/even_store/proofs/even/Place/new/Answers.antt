@@ -1,8 +1,7 @@
-use Rattle.std.proofs.Common.{arith, rules, List, ap, ◌∙◌, ◌≡◌, replicate}
+use Rattle.std.proofs.Common.{rules, List, ap, ◌≡◌, replicate}
 use Rattle.std.proofs.lemmas.List.{take-replicate}
 use Rattle.values.specs.declared.value.Value.{Value}
 use Rattle.values.specs.declared.value.Value.TheVariants.{Null}
-use Rattle.store.specs.Model.{StoredCell}
 use Rattle.even_store.proofs.even.Place.new.Goals as goal
 
 pub returns : goal.returns

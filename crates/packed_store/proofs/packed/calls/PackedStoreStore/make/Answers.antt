@@ -1,20 +1,10 @@
-use Rattle.std.proofs.Common.{arith, rules, ap, length-append, ◌∙◌, ◌≡◌, length, ◌+◌}
+use Rattle.std.proofs.Common.{arith, ap, length-append, ◌∙◌, ◌≡◌, length, ◌+◌}
 use Rattle.std.proofs.lemmas.List.{length-replicate}
 use Rattle.packed_store.specs.declared.packed.Span.{Span}
 use Rattle.packed_store.specs.Packed.{packed}
 use Rattle.packed_store.specs.PackedSpans.{used_cells, used_slots}
 use Rattle.packed_store.proofs.Spans.{more_sum, more_small, more_begins, more_cells}
 use Rattle.packed_store.proofs.packed.calls.PackedStoreStore.make.Goals as goal
-
-pub push-requires : goal.push-requires
-push-requires c = let a = c.in_ok-cell.ensures.cells in let n = used_cells c.args.self.now in search rules
-
-pub append_nulls-requires : goal.append_nulls-requires
-append_nulls-requires c =
-    let a = c.in_ok-cell.ensures.fields in
-    let b = c.in_ok-cell.ensures.slots in
-    let n = used_slots c.args.self.now in
-    search rules
 
 pub invariant_of-self : goal.invariant_of-self
 invariant_of-self c =

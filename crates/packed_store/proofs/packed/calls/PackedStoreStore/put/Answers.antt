@@ -1,22 +1,16 @@
-use Rattle.std.proofs.Common.{ap, ◌∙◌, arith, rules, length-set}
+use Rattle.std.proofs.Common.{ap, ◌∙◌, length-set}
 use Rattle.store.specs.Model.{done}
 use Rattle.packed_store.specs.Packed.{packed, laid}
-use Rattle.packed_store.proofs.Spans.{slot_reads, slot_end, slot_cells}
+use Rattle.packed_store.proofs.Spans.{slot_reads, slot_cells}
 use Rattle.arrayvec.proofs.ArrayVecLemmas.{items-with_items}
 use Rattle.packed_store.proofs.packed.calls.PackedStoreStore.put.Goals as goal
 
-pub offset_bounds-deref_mut-slot : goal.offset_bounds-deref_mut-slot
-offset_bounds-deref_mut-slot c = let e = slot_end c.args.self.now _ _ _ c.in_ok-slot.ensures in omega arith
-
-pub bounds-deref_mut-slot : goal.bounds-deref_mut-slot
-bounds-deref_mut-slot c = let e = slot_end c.args.self.now _ _ _ c.in_ok-slot.ensures in search rules
-
 pub returns-clause-answer : goal.returns-clause-answer
-returns-clause-answer c = ap done (slot_reads c.args.self.now _ _ _ c.in_ok-slot.ensures c.args.value)
+returns-clause-answer c = ap done (slot_reads c.args.self.now _ _ _ c.in_ok-slot.ensures.place c.args.value)
 
 pub returns-clause-after : goal.returns-clause-after
 returns-clause-after c =
     let s = c.args.self.now in
     let d = c.deref_mut.ensures.value in
     ap packed (ap (laid s.spans.items) (rw d (items-with_items s.slots _ (simp length-set)))
-    ∙ slot_cells s _ _ _ c.in_ok-slot.ensures c.args.value)
+    ∙ slot_cells s _ _ _ c.in_ok-slot.ensures.place c.args.value)
