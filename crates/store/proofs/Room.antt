@@ -1,9 +1,9 @@
 -- Room for a series of cells, in any store.
-use Rattle.std.proofs.Common.{◌≡◌, ℕ, ◌+◌, ◌<◌, ◌≤◌, true, leb, length, Ok, sym, ap, ◌∙◌, arith}
+use Rattle.std.proofs.Common.{◌≡◌, ℕ, ◌+◌, ◌≤◌, true, leb, length, Ok, sym, ap, ◌∙◌, arith}
 use lib.ListN.{length-replicate}
 use Rattle.std.proofs.lemmas.List.{length_push}
 use Rattle.std.proofs.lemmas.List.Sums.{sum_by_push}
-use Rattle.std.proofs.lemmas.Bool.{and_parts, and_from, leb-true, le-leb, lt-leb}
+use Rattle.std.proofs.lemmas.Bool.{and_parts, and_from, leb-true, le-leb}
 use Rattle.values.specs.declared.value.Value.TheVariants.{Null}
 use Rattle.store.specs.declared.cell.Head.{Head}
 use Rattle.store.specs.Frames.{RoomLasts, has_room}
@@ -34,15 +34,3 @@ room_lasts m =
           let b = length_push m.cells (new_cell h n) in
           room_from (after_make m h n (Ok c)) k s (omega arith) (omega arith);
     }
-
--- the test, one limit after the other
-pub room_then : (m : Model) (k s x y : ℕ) → length m.cells + k ≤ m.cell_limit → x ≡ slots_of m + s → y ≡ m.slot_limit → leb x y ≡ has_room m k s
-unfolding has_room
-room_then m k s x y h e f = let t = le-leb (length m.cells + k) m.cell_limit h in simp (t, e, f)
-
-pub room_else : (m : Model) (k s x y : ℕ) → m.cell_limit < length m.cells + k → y < x → leb x y ≡ has_room m k s
-unfolding has_room
-room_else m k s x y h l =
-    let t = lt-leb (length m.cells + k) m.cell_limit h in
-    let u = lt-leb x y l in
-    simp (t, u)

@@ -64,6 +64,7 @@ pub trait Store {
         ensures { result ≡ (model self.now).charge fields };
 
     // The number of the next cell, if a cell of that many fields can be made.
+    #[tactic(auto, unfolding(crate::specs::Model::make_answer))]
     fn next_cell(&self, fields: u8) -> Result<u8, MakeRefusal>
         ensures answer { result ≡ make_answer (model self.now) fields }
         ensures number { IfOk result (λ cell. cell ≡ length (model self.now).cells) }
