@@ -3,9 +3,10 @@ ghost use Rattle.std.specs.Prelude.{◌≡◌, Decides};
 use cells::CellSet;
 
 // What a variable, a field or an expression holds.
-#[derive(Clone, Copy, PartialEq, Eq, Debug)]
+#[derive(Clone, Copy, Default, PartialEq, Eq, Debug)]
 pub enum Value {
     Truth(bool),
+    #[default]
     Null,
     Cell(u8),
     Set(CellSet),
