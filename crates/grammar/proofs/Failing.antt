@@ -11,17 +11,21 @@ use Rattle.grammar.specs.declared.event.Literal.{Literal as Value}
 use Rattle.grammar.specs.declared.event.Literal.TheVariants as value
 use Rattle.grammar.specs.declared.event.Pairing.{Pairing as Doing}
 use Rattle.grammar.specs.declared.event.Pairing.TheVariants as doing
+use Rattle.grammar.specs.declared.event.End.{End as Side}
+use Rattle.grammar.specs.declared.event.End.TheVariants as side
 use Rattle.grammar.specs.declared.parser.Parser.{Parser}
 use Rattle.grammar.specs.declared.parser.reading.Unexpected.{Unexpected}
 use Rattle.grammar.specs.declared.parser.items.Found.{Found}
 use Rattle.grammar.specs.declared.parser.items.Found.TheVariants as found
-use Rattle.grammar.specs.Events.{value_of, doing_of}
+use Rattle.grammar.specs.declared.parser.items.Part.{Part}
+use Rattle.grammar.specs.declared.parser.items.Part.TheVariants as part
+use Rattle.grammar.specs.Events.{value_of, doing_of, side_of}
 use Rattle.grammar.specs.Machine.{Sym, word, start, more, dotted, named, runs, step, begin, onward, after_dot, ends, fresh, two, alone_is, literal_word, Use, whole, operand, Form, done, plain}
-use Rattle.grammar.specs.Told.{rest, kind_at, seen, place_at, form_of, AfterDot, Named, DottedBare, ReadTarget, ReadExpr, ReadItem, Took, Passed, Fails, Leads, Finds, FailsItem, GivesItem, GivesExpr, GivesPart, Goes, pairing_at, doing_kind, literal_at}
-use Rattle.grammar.specs.Trees.{literal_kind, pairing_kind}
+use Rattle.grammar.specs.Told.{rest, kind_at, seen, place_at, form_of, AfterDot, Named, DottedBare, ReadTarget, ReadExpr, ReadItem, Took, Passed, Fails, Leads, Finds, FailsItem, GivesItem, GivesExpr, GivesPart, Goes, pairing_at, end_at, doing_kind, literal_at}
+use Rattle.grammar.specs.Trees.{literal_kind, pairing_kind, end_kind}
 use Rattle.grammar.specs.Trees as tree
 use Rattle.grammar.proofs.Items.{pair_step}
-use Rattle.grammar.proofs.Passing.{never, never_true, took, first_word, word_passes, word_stops, unseen_first}
+use Rattle.grammar.proofs.Passing.{never, never_true, took, first_word, word_passes, word_stops, seen_first, unseen_first}
 use Rattle.grammar.proofs.Steps.{step_leads, took_leads, fails_after, stuck_at, not_kind, start_stops}
 use Rattle.grammar.proofs.WordKinds.{is_true}
 
@@ -44,8 +48,8 @@ module _ {X : Type 0} (after : X → Event → X) where
   expr_exit {p} q l m x f = subst (λ (r : Result (Unit {0}) Unexpected). GivesExpr after p l r q m) (sym x) f
 
 module _ {X : Type 0} (after : X → Event → X) where
-  pub part_exit : {p : Parser} (q : Parser) (l m : X) {r : Result Bool Unexpected} {e : Unexpected} → r ≡ Err e → Fails p (start whole) e → GivesPart after p l r q m
-  part_exit {p} q l m x f = subst (λ (r : Result Bool Unexpected). GivesPart after p l r q m) (sym x) f
+  pub part_exit : {p : Parser} (q : Parser) (l m : X) {r : Result Part Unexpected} {e : Unexpected} → r ≡ Err e → Fails p (start whole) e → GivesPart after p l r q m
+  part_exit {p} q l m x f = subst (λ (r : Result Part Unexpected). GivesPart after p l r q m) (sym x) f
 
 pub goes_exit : {A : Type 0} (p q : Parser) {r : Result A Unexpected} {e : Unexpected} → r ≡ Err e → Goes p r q
 goes_exit {A} p q x = subst (λ (r : Result A Unexpected). Goes p r q) (sym x) tt
@@ -64,14 +68,14 @@ module _ {X : Type 0} (after : X → Event → X) where
   finds_as p q l m at e h = subst (λ (f : Found). Finds after p l at f q m) e h
 
 module _ {X : Type 0} {after : X → Event → X} where
-  pub target_of : {p q : Parser} {l m : X} (b : Bool) → b ≡ true → GivesPart after p l (Ok b) q m → ReadTarget after p l q m
-  target_of true e h = h
-  target_of false e h = never_true e
+  pub target_part : {p q : Parser} {l m : X} (x : Part) → x ≡ part.Target → GivesPart after p l (Ok x) q m → ReadTarget after p l q m
+  target_part part.Target e h = h
+  target_part part.Last e h = let z : ◌≡◌ {A = ℕ} 0 1 = cc in never z
 
 module _ {X : Type 0} {after : X → Event → X} where
-  pub last_of : {p q : Parser} {l m : X} (b : Bool) → b ≡ false → GivesPart after p l (Ok b) q m → ReadExpr after p l q m
-  last_of true e h = never_true (sym e)
-  last_of false e h = h
+  pub last_part : {p q : Parser} {l m : X} (x : Part) → (x ≡ part.Target → ⊥) → GivesPart after p l (Ok x) q m → ReadExpr after p l q m
+  last_part part.Target e h = absurd (e refl)
+  last_part part.Last e h = h
 
 -- the words from s to q begin an item, whatever it is read for, and δ is expected after them
 pub record Reached (s q : Parser) (δ : Use → List Sym → List Sym) : Type 0 where
@@ -222,13 +226,30 @@ pairing_bare (found.Inner n) ws x e = not_none e
 pairing_bare found.Done ws x e = not_none e
 pairing_bare found.Plain ws x e = not_none e
 
-pub no_pairing : (f : Found) (ws : List Token) → pairing_at f ws ≡ None → alone_is (form_of f) ≡ true → (kind_at ws ≡ Some kind.Add → ⊥) × (kind_at ws ≡ Some kind.Rem → ⊥)
-no_pairing found.Bare ws e h = go (seen kind.Add ws) (seen kind.Rem ws) (unseen_first kind.Add ws) (unseen_first kind.Rem ws) e
+-- none of two kinds comes, where one is asked for after the other
+neither : {A : Type 0} (j k : Kind) (x y : A) (ws : List Token) → cond (seen j ws) (Some x) (cond (seen k ws) (Some y) None) ≡ None → (kind_at ws ≡ Some j → ⊥) × (kind_at ws ≡ Some k → ⊥)
+neither {A} j k x y ws e = go (seen j ws) (seen k ws) (unseen_first j ws) (unseen_first k ws) e
   where
-    go : (a b : Bool) → (a ≡ false → kind_at ws ≡ Some kind.Add → ⊥) → (b ≡ false → kind_at ws ≡ Some kind.Rem → ⊥) → cond a (Some doing.Add) (cond b (Some doing.Rem) None) ≡ None → (kind_at ws ≡ Some kind.Add → ⊥) × (kind_at ws ≡ Some kind.Rem → ⊥)
+    go : (a b : Bool) → (a ≡ false → kind_at ws ≡ Some j → ⊥) → (b ≡ false → kind_at ws ≡ Some k → ⊥) → ◌≡◌ {A = Option A} (cond a (Some x) (cond b (Some y) None)) None → (kind_at ws ≡ Some j → ⊥) × (kind_at ws ≡ Some k → ⊥)
     go true b f g e = not_none (sym e)
     go false true f g e = not_none (sym e)
     go false false f g e = (f refl, g refl)
+
+pub no_pairing : (f : Found) (ws : List Token) → pairing_at f ws ≡ None → alone_is (form_of f) ≡ true → (kind_at ws ≡ Some kind.Add → ⊥) × (kind_at ws ≡ Some kind.Rem → ⊥)
+no_pairing found.Bare ws e h = neither kind.Add kind.Rem doing.Add doing.Rem ws e
 no_pairing (found.Inner n) ws e h = never_true h
 no_pairing found.Done ws e h = never_true h
 no_pairing found.Plain ws e h = never_true h
+
+-- `from` and `to`
+pub no_end : (ws : List Token) → end_at ws ≡ None → (kind_at ws ≡ Some kind.From → ⊥) × (kind_at ws ≡ Some kind.To → ⊥)
+no_end ws e = neither kind.From kind.To side.From side.To ws e
+
+pub end_some : (ws : List Token) (x : Side) → end_at ws ≡ Some x → (y : tree.End) × (kind_at ws ≡ Some (end_kind y)) × (x ≡ side_of y)
+end_some ws x e = go (seen kind.From ws) (seen kind.To ws) (seen_first kind.From ws) (seen_first kind.To ws) e
+  where
+    go : (a b : Bool) → (a ≡ true → kind_at ws ≡ Some kind.From) → (b ≡ true → kind_at ws ≡ Some kind.To) → cond a (Some side.From) (cond b (Some side.To) None) ≡ Some x
+        → (y : tree.End) × (kind_at ws ≡ Some (end_kind y)) × (x ≡ side_of y)
+    go true b f g e = (tree.from, f refl, sym (some_same e))
+    go false true f g e = (tree.to, g refl, sym (some_same e))
+    go false false f g e = not_none e

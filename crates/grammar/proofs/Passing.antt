@@ -1,5 +1,9 @@
 -- One word is passed, or cannot come.
-use Rattle.std.proofs.Common.{◌≡◌, ℕ, ◌+◌, ◌≤◌, true, false, List, [], ◌∷◌, length, Some, None, Option, sym, refl, ap, ◌∙◌, arith}
+use Rattle.std.proofs.Common.{◌≡◌, ℕ, ◌+◌, ◌≤◌, true, false, List, [], ◌∷◌, length, Some, None, Option, sym, refl, ap, ◌∙◌, arith, rules}
+use Rattle.std.proofs.lemmas.Bool.Decides.{same_from_decides}
+use Rattle.std.specs.Option.{option_eq}
+use denote.Enum.Bare.{sameb, same_true, true_same}
+use Rattle.words.specs.contracts.kind.Kind.{the_type}
 use Rattle.words.specs.declared.kind.Kind.{Kind}
 use Rattle.words.specs.declared.cursor.Cursor.{Cursor}
 use Rattle.words.specs.declared.cursor.Word.{Word}
@@ -62,9 +66,18 @@ pub seen_first : (k : Kind) (ws : List Token) → seen k ws ≡ true → kind_at
 seen_first k [] e = never_true e
 seen_first k (w ∷ ws) e = ap Some (is_true k w.kind e)
 
+first_seen : (k : Kind) (ws : List Token) → kind_at ws ≡ Some k → seen k ws ≡ true
+first_seen k [] e = let z : ◌≡◌ {A = ℕ} 0 1 = cc in never z
+first_seen k (w ∷ ws) e = let g : k ≡ w.kind = cc in is_same k w.kind g
+
 pub unseen_first : (k : Kind) (ws : List Token) → seen k ws ≡ false → kind_at ws ≡ Some k → ⊥
-unseen_first k [] e f = let z : ◌≡◌ {A = ℕ} 0 1 = cc in never z
-unseen_first k (w ∷ ws) e f = let g : k ≡ w.kind = cc in never_true (sym e ∙ is_same k w.kind g)
+unseen_first k ws e f = never_true (sym e ∙ first_seen k ws f)
+
+pub seen_is : (k : Kind) (ws : List Token) → option_eq (sameb the_type) (kind_at ws) (Some k) ≡ seen k ws
+seen_is k [] = refl
+seen_is k (w ∷ ws) =
+    same_from_decides (sameb the_type w.kind k) (is k w.kind)
+    (same_true the_type (search rules) w.kind k, true_same the_type w.kind k) (is_true k w.kind, λ e. is_same k w.kind (sym e))
 
 -- the next word is of kind k, and is passed
 pub took : (k : Kind) (p q : Parser) → kind_at (rest p) ≡ Some k → Passed p q → Took k p q (place_at p.end (rest p))

@@ -18,14 +18,16 @@ impl<'a> Parser<'a> {
     pub(crate) fn typed(&mut self) -> Result<TypeWord, Unexpected>
         ensures { GivesType self.old result self.new }
     {
-        if self.sees(Kind::Boolean) {
-            self.advance();
-            Ok(TypeWord::Boolean)
-        } else if self.sees(Kind::Set) {
-            self.set_type()
-        } else {
-            let name = self.take(Kind::Name)?;
-            Ok(TypeWord::Row(name))
+        match self.kind() {
+            Some(Kind::Boolean) => {
+                self.advance();
+                Ok(TypeWord::Boolean)
+            }
+            Some(Kind::Set) => self.set_type(),
+            _ => {
+                let name = self.take(Kind::Name)?;
+                Ok(TypeWord::Row(name))
+            }
         }
     }
 
@@ -70,14 +72,13 @@ impl<'a> Parser<'a> {
         requires { Settled self.old }
         ensures { (s : Reader) (l : S) → Finds S.Sink.after s l place found self.old sink.old → GivesAction S.Sink.after s l place result self.new sink.new }
     {
-        match found {
-            Found::Done => Ok(()),
-            Found::Bare => self.assigned(Event::ToVariable { place }, sink),
-            Found::Inner(name) => self.assigned(Event::ToMember { name, place }, sink),
-            Found::Plain => Err(Unexpected {
-                place: self.place(),
-            }),
+        if found == Found::Done {
+            return Ok(());
         }
+        let target = found.target(place).ok_or(Unexpected {
+            place: self.place(),
+        })?;
+        self.assigned(target, sink)
     }
 
     // An action and its semicolon.
