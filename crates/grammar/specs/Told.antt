@@ -10,6 +10,7 @@ use Rattle.grammar.specs.declared.parser.Parser.{Parser}
 use Rattle.grammar.specs.declared.parser.reading.Unexpected.{Unexpected}
 use Rattle.grammar.specs.declared.parser.items.Found.{Found}
 use Rattle.grammar.specs.declared.parser.items.Found.TheVariants as found
+use Rattle.grammar.specs.declared.parser.items.Item.{Item}
 use Rattle.grammar.specs.declared.parser.items.Part.{Part}
 use Rattle.grammar.specs.declared.parser.items.Part.TheVariants as part
 use Rattle.grammar.specs.declared.event.Literal.{Literal as Value}
@@ -149,8 +150,13 @@ abbrev pub GivesItem : {X : Type 0} → (X → Event → X) → Parser → X →
 GivesItem after p l at (Ok f) q m = Finds after p l at f q m
 GivesItem after p l at (Err e) q m = FailsItem p e
 
+-- the same, with the place of its first word
+abbrev pub GivesWhole : {X : Type 0} → (X → Event → X) → Parser → X → Result Item Unexpected → Parser → X → Type 0
+GivesWhole after p l (Ok i) q m = Finds after p l i.place i.found q m
+GivesWhole after p l (Err e) q m = FailsItem p e
+
 -- the words that end an item
-abbrev pub Ended : Result Found Unexpected → Parser → Type 0
+abbrev pub Ended : {A : Type 0} → Result A Unexpected → Parser → Type 0
 Ended (Ok f) q = (kind_at (rest q) ≢ Some kind.Dot) × (kind_at (rest q) ≢ Some kind.Colon)
 Ended (Err e) q = Unit {0}
 

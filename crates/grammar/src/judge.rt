@@ -53,16 +53,16 @@ impl fmt::Display for TextRefusal {
 impl From<Unreadable> for TextRefusal {
     ghost from_gives = { λ u r. r ≡ refusal.Unreadable u };
 
-    fn from(refusal: Unreadable) -> TextRefusal {
-        TextRefusal::Unreadable(refusal)
+    fn from(unreadable: Unreadable) -> TextRefusal {
+        TextRefusal::Unreadable(unreadable)
     }
 }
 
 impl From<Unexpected> for TextRefusal {
     ghost from_gives = { λ e r. r ≡ refusal.Unexpected e };
 
-    fn from(word: Unexpected) -> TextRefusal {
-        TextRefusal::Unexpected(word)
+    fn from(unexpected: Unexpected) -> TextRefusal {
+        TextRefusal::Unexpected(unexpected)
     }
 }
 

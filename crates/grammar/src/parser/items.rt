@@ -3,7 +3,7 @@ ghost use Rattle.words.specs.declared.kind.Kind.TheVariants.{Dot, Colon, Equal, 
 ghost use Rattle.grammar.specs.declared.parser.Parser.{Parser as Reader};
 ghost use Rattle.grammar.specs.Events.{fed};
 ghost use Rattle.grammar.specs.Machine.{Form};
-ghost use Rattle.grammar.specs.Told.{rest, kind_at, place_at, literal_at, doing_kind, pairing_at, end_at, reads_of, target_of, Finds, DottedBare, AfterDot, Named, ReadItem, GivesItem, GivesExpr, GivesPart, Ended, Goes};
+ghost use Rattle.grammar.specs.Told.{rest, kind_at, place_at, literal_at, doing_kind, pairing_at, end_at, reads_of, target_of, Finds, DottedBare, AfterDot, Named, ReadItem, GivesItem, GivesWhole, GivesExpr, GivesPart, Ended, Goes};
 
 use super::Parser;
 use super::reading::Unexpected;
@@ -19,6 +19,13 @@ pub(crate) enum Found {
     Inner(usize),
     Done,
     Plain,
+}
+
+// An item that is read so far, and the place where it begins.
+#[derive(Clone, Copy, Debug)]
+pub(crate) struct Item {
+    pub(crate) found: Found,
+    pub(crate) place: usize,
 }
 
 // What a part of an expression is: a target, after which more comes, or the last part.
@@ -40,23 +47,25 @@ fn literal_of(kind: Kind) -> Option<Literal>
     }
 }
 
-// Reports the value of an item that begins at `place`, if it is not reported yet.
-fn report_value<S: Sink>(found: Found, place: usize, sink: &mut S)
-    ensures { sink.new ≡ fed S.Sink.after sink.old (reads_of found place) }
-{
-    match found {
-        Found::Bare => sink.put(Event::Variable { place }),
-        Found::Inner(name) => sink.put(Event::Member { name, place }),
-        Found::Done | Found::Plain => {}
-    }
-}
-
-impl Found {
-    // What reports an item that begins at `place` as a target, if it can be one.
-    pub(crate) fn target(self, place: usize) -> Option<Event>
-        ensures { result ≡ target_of self place }
+impl Item {
+    // Reports the value, if it is not reported yet.
+    fn report_value<S: Sink>(self, sink: &mut S)
+        ensures { sink.new ≡ fed S.Sink.after sink.old (reads_of self.found self.place) }
     {
-        match self {
+        let place = self.place;
+        match self.found {
+            Found::Bare => sink.put(Event::Variable { place }),
+            Found::Inner(name) => sink.put(Event::Member { name, place }),
+            Found::Done | Found::Plain => {}
+        }
+    }
+
+    // What reports that it is assigned to, if it can be.
+    pub(crate) fn target(self) -> Option<Event>
+        ensures { result ≡ target_of self.found self.place }
+    {
+        let place = self.place;
+        match self.found {
             Found::Bare => Some(Event::ToVariable { place }),
             Found::Inner(name) => Some(Event::ToMember { name, place }),
             Found::Done | Found::Plain => None,
@@ -184,57 +193,49 @@ impl<'a> Parser<'a> {
 
     // An item goes on with a dot.
     #[cycle(atom_call_dotted_expr_item_member_pair_part_right)]
-    fn dotted<S: Sink>(
-        &mut self,
-        found: Found,
-        place: usize,
-        sink: &mut S,
-    ) -> Result<Found, Unexpected>
+    fn dotted<S: Sink>(&mut self, item: Item, sink: &mut S) -> Result<Found, Unexpected>
         requires { kind_at (rest self.old) ≡ Some Dot }
         ensures goes { Goes self.old result self.new }
-        ensures gives { (s : Reader) (l : S) → Finds S.Sink.after s l place found self.old sink.old → GivesItem S.Sink.after s l place result self.new sink.new }
+        ensures gives { (s : Reader) (l : S) → Finds S.Sink.after s l item.place item.found self.old sink.old → GivesItem S.Sink.after s l item.place result self.new sink.new }
     {
         self.advance();
-        if let Some(pairing) = self.pairing(found) {
-            return self.pair(pairing, place, sink);
+        if let Some(pairing) = self.pairing(item.found) {
+            return self.pair(pairing, item.place, sink);
         }
-        report_value(found, place, sink);
-        self.member(place, sink)
+        item.report_value(sink);
+        self.member(item.place, sink)
     }
 
     // An item goes on with a colon.
-    fn colon<S: Sink>(
-        &mut self,
-        found: Found,
-        place: usize,
-        sink: &mut S,
-    ) -> Result<Found, Unexpected>
+    fn colon<S: Sink>(&mut self, item: Item, sink: &mut S) -> Result<Found, Unexpected>
         requires { kind_at (rest self.old) ≡ Some Colon }
         ensures goes { Goes self.old result self.new }
-        ensures gives { (s : Reader) (l : S) → Finds S.Sink.after s l place found self.old sink.old → GivesItem S.Sink.after s l place result self.new sink.new }
+        ensures gives { (s : Reader) (l : S) → Finds S.Sink.after s l item.place item.found self.old sink.old → GivesItem S.Sink.after s l item.place result self.new sink.new }
     {
-        report_value(found, place, sink);
+        item.report_value(sink);
         self.advance();
         let name = self.take(Kind::Name)?;
-        sink.put(Event::Instances { name, place });
+        sink.put(Event::Instances {
+            name,
+            place: item.place,
+        });
         Ok(Found::Plain)
     }
 
     #[cycle(atom_call_dotted_expr_item_member_pair_part_right)]
-    pub(crate) fn item<S: Sink>(&mut self, sink: &mut S) -> Result<Found, Unexpected>
-        ensures gives { GivesItem S.Sink.after self.old sink.old (place_at self.old.end (rest self.old)) result self.new sink.new }
+    pub(crate) fn item<S: Sink>(&mut self, sink: &mut S) -> Result<Item, Unexpected>
+        ensures gives { GivesWhole S.Sink.after self.old sink.old result self.new sink.new }
         ensures goes { Goes self.old result self.new }
         ensures ended { Ended result self.new }
     {
         let place = self.place();
-        let mut found = self.atom(sink)?;
+        let found = self.atom(sink)?;
+        let mut item = Item { found, place };
         loop {
-            if self.sees(Kind::Dot) {
-                found = self.dotted(found, place, sink)?;
-            } else if self.sees(Kind::Colon) {
-                found = self.colon(found, place, sink)?;
-            } else {
-                return Ok(found);
+            match self.kind() {
+                Some(Kind::Dot) => item.found = self.dotted(item, sink)?,
+                Some(Kind::Colon) => item.found = self.colon(item, sink)?,
+                _ => return Ok(item),
             }
         }
     }
@@ -246,9 +247,8 @@ impl<'a> Parser<'a> {
         ensures { (s : Reader) (l : S) (f : Form) → ReadItem S.Sink.after s l self.old sink.old place f → GivesExpr S.Sink.after s l result self.new sink.new }
     {
         self.advance();
-        let from = self.place();
-        let found = self.item(sink)?;
-        report_value(found, from, sink);
+        let item = self.item(sink)?;
+        item.report_value(sink);
         sink.put(Event::Equal { place });
         Ok(())
     }
@@ -258,18 +258,17 @@ impl<'a> Parser<'a> {
     fn part<S: Sink>(&mut self, sink: &mut S) -> Result<Part, Unexpected>
         ensures { GivesPart S.Sink.after self.old sink.old result self.new sink.new }
     {
-        let place = self.place();
-        let found = self.item(sink)?;
+        let item = self.item(sink)?;
         if self.sees(Kind::Assign) {
-            if let Some(target) = found.target(place) {
+            if let Some(target) = item.target() {
                 self.advance();
                 sink.put(target);
                 return Ok(Part::Target);
             }
         }
-        report_value(found, place, sink);
+        item.report_value(sink);
         if self.sees(Kind::Equal) {
-            self.right(place, sink)?;
+            self.right(item.place, sink)?;
         }
         Ok(Part::Last)
     }

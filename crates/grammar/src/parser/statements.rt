@@ -7,7 +7,7 @@ ghost use Rattle.grammar.specs.Told.{rest, kind_at, variable_begins, statement_b
 ghost use Rattle.grammar.specs.Trees.{many, stmt, variable};
 
 use super::Parser;
-use super::items::Found;
+use super::items::{Found, Item};
 use super::reading::Unexpected;
 use crate::event::{Event, TypeWord};
 use crate::sink::Sink;
@@ -68,14 +68,14 @@ impl<'a> Parser<'a> {
     }
 
     // The rest of an action whose first item is found.
-    fn acted<S: Sink>(&mut self, found: Found, place: usize, sink: &mut S) -> Result<(), Unexpected>
+    fn acted<S: Sink>(&mut self, item: Item, sink: &mut S) -> Result<(), Unexpected>
         requires { Settled self.old }
-        ensures { (s : Reader) (l : S) → Finds S.Sink.after s l place found self.old sink.old → GivesAction S.Sink.after s l place result self.new sink.new }
+        ensures { (s : Reader) (l : S) → Finds S.Sink.after s l item.place item.found self.old sink.old → GivesAction S.Sink.after s l item.place result self.new sink.new }
     {
-        if found == Found::Done {
+        if item.found == Found::Done {
             return Ok(());
         }
-        let target = found.target(place).ok_or(Unexpected {
+        let target = item.target().ok_or(Unexpected {
             place: self.place(),
         })?;
         self.assigned(target, sink)
@@ -87,11 +87,10 @@ impl<'a> Parser<'a> {
         requires other { kind_at (rest self.old) ≢ Some If }
         ensures { GivesTree S.Sink.after stmt self.old sink.old result self.new sink.new stmts (λ (α : List Sym). stmts ∷ α) }
     {
-        let place = self.place();
-        let found = self.item(sink)?;
-        self.acted(found, place, sink)?;
+        let item = self.item(sink)?;
+        self.acted(item, sink)?;
         self.take(Kind::Semicolon)?;
-        sink.put(Event::Acted { place });
+        sink.put(Event::Acted { place: item.place });
         Ok(())
     }
 

@@ -3,9 +3,9 @@ use Rattle.words.specs.declared.kind.Kind.TheVariants as kind
 use Rattle.grammar.specs.declared.event.Event.TheVariants as event
 use Rattle.grammar.specs.Events.{fed}
 use Rattle.grammar.specs.Machine.{settable}
-use Rattle.grammar.specs.Told.{rest, kind_at, place_at, literal_at, end_at, pairing_at, reads_of, form_of}
+use Rattle.grammar.specs.Told.{rest, kind_at, place_at, literal_at, end_at, pairing_at, form_of}
 use Rattle.grammar.specs.Trees.{literal_kind, end_kind}
-use Rattle.grammar.proofs.Failing.{item_exit, expr_exit, part_exit, finds_at, finds_as, target_part, last_part, failed, reach_word, reach_expr, reach_fails, reach_new, reach_paren, reach_call, reach_pair, equal_fails, literal_some, begin_fails, end_fails, dot_fails, pairing_of, pairing_took, pairing_doing, pairing_bare, no_pairing, end_some, no_end}
+use Rattle.grammar.proofs.Failing.{item_exit, expr_exit, part_exit, finds_as, target_part, last_part, failed, reach_word, reach_expr, reach_fails, reach_new, reach_paren, reach_call, reach_pair, equal_fails, literal_some, begin_fails, end_fails, dot_fails, pairing_of, pairing_took, pairing_doing, pairing_bare, no_pairing, end_some, no_end}
 use Rattle.grammar.proofs.Items.{bare_held, new_done, paren_plain, literal_plain, read_item, after_dot_read, dotted_bare, end_plain, named_read, inner_held, call_done, pair_done, alone_read, equal_read, target_read, no_target, chain_none, chain_more, chain_read}
 use Rattle.grammar.proofs.Passing.{took, seen_first, unseen_first}
 use Rattle.grammar.proofs.parser.Parser.+atom_call_dotted_expr_item_member_pair_part_right.Goals.{part-then-sees+in_default, part-else-sees}
@@ -130,17 +130,17 @@ pub dotted-returns-in-Some-clause-gives : goal.dotted-returns-in-Some-clause-giv
 dotted-returns-in-Some-clause-gives g t c =
     let p = c.args.self.now in
     let d = took kind.Dot p c.advance.new.self c.requires c.advance.ensures in
-    let f = pairing_bare c.args.found _ _ (sym c.in-Some.ensures) in
+    let f = pairing_bare c.args.item.found _ _ (sym c.in-Some.ensures) in
     λ s l h. c.pair.ensures.gives s l (dotted_bare (finds_as _ s p l _ _ f h) d)
 
 pub dotted-returns-clause-gives : goal.dotted-returns-clause-gives
 dotted-returns-clause-gives g t c =
     let p = c.args.self.now in
     let d = took kind.Dot p c.advance.new.self c.requires c.advance.ensures in
-    let n : pairing_at c.args.found (rest c.advance.new.self) ≡ None = search rules in
+    let n : pairing_at c.args.item.found (rest c.advance.new.self) ≡ None = search rules in
     λ s l h.
     c.member.ensures.gives s l
-    (after_dot_read (read_item c.args.found s p l _ _ _ h c.report_value.ensures) d (no_pairing c.args.found _ n))
+    (after_dot_read (read_item c.args.item.found s p l _ _ _ h c.report_value.ensures) d (no_pairing c.args.item.found _ n))
 
 pub expr-loop-targets-init : goal.expr-loop-targets-init
 expr-loop-targets-init g t c = chain_none _ _
@@ -241,51 +241,45 @@ pub part-returns-in-Some : goal.part-returns-in-Some
 part-returns-in-Some g t c =
     let p = c.args.self.now in
     let q = c.item.new.self in
-    let f = c.in_ok-found.found in
-    let h = finds_at _ f p q _ _ c.place-place.ensures c.in_ok-found.ensures.gives in
+    let f = c.in_ok-item.item.found in
     let w = took kind.Assign q c.advance.new.self (seen_first kind.Assign _ (sym c.if-sees.ensures)) c.advance.ensures in
-    target_read _ f p q _ _ _ _ (sym c.in-Some.ensures) h w c.put.ensures
+    target_read _ f p q _ _ _ _ (sym c.in-Some.ensures) c.in_ok-item.ensures.gives w c.put.ensures
 
 pub part-returns-in_err-right : goal.part-returns-in_err-right
 part-returns-in_err-right g t c =
     let x = failed c.from_residual-in_err-right.result c.from_residual-in_err-right.ensures.1 in
     let p = c.args.self.now in
-    let f = c.in_ok-found.found in
-    let h = finds_at _ f p _ _ _ c.place-place.ensures c.in_ok-found.ensures.gives in
-    part_exit _ _ _ _ x (c.in_err-right.ensures p c.args.sink.now (form_of f) (read_item f p _ _ _ _ _ h c.report_value.ensures))
+    let f = c.in_ok-item.item.found in
+    part_exit _ _ _ _ x (c.in_err-right.ensures p c.args.sink.now (form_of f) (read_item f p _ _ _ _ _ c.in_ok-item.ensures.gives c.report_value.ensures))
 
 pub part-returns-in_ok-right : goal.part-returns-in_ok-right
 part-returns-in_ok-right g t c =
     let p = c.args.self.now in
-    let f = c.in_ok-found.found in
-    let h = finds_at _ f p _ _ _ c.place-place.ensures c.in_ok-found.ensures.gives in
-    c.in_ok-right.ensures p c.args.sink.now (form_of f) (read_item f p _ _ _ _ _ h c.report_value.ensures)
+    let f = c.in_ok-item.item.found in
+    c.in_ok-right.ensures p c.args.sink.now (form_of f) (read_item f p _ _ _ _ _ c.in_ok-item.ensures.gives c.report_value.ensures)
 
 pub part-returns-else-sees-2 : goal.part-returns-else-sees-2
 part-returns-else-sees-2 g t c =
     let p = c.args.self.now in
-    let i = c.in_ok-found.ensures in
-    let f = c.in_ok-found.found in
-    let h = finds_at _ f p _ _ _ c.place-place.ensures i.gives in
+    let i = c.in_ok-item.ensures in
+    let f = c.in_ok-item.item.found in
     let kept : kind_at (rest c.item.new.self) ≡ Some kind.Assign → settable (form_of f) ≡ false = elim c.if-sees.branch [
-      | part-then-sees+in_default w ↦ λ _. no_target f c.place-place.result (sym w.in_default.ensures)
+      | part-then-sees+in_default w ↦ λ _. no_target f c.in_ok-item.item.place (sym w.in_default.ensures)
       | part-else-sees w ↦ λ e. absurd (unseen_first kind.Assign _ (sym w.if-sees.ensures) e)
     ] in
-    alone_read (read_item f p _ _ _ _ _ h c.report_value.ensures) i.ended.0 i.ended.1 (unseen_first kind.Equal _ (sym c.if-sees-2.ensures)) kept
+    alone_read (read_item f p _ _ _ _ _ c.in_ok-item.ensures.gives c.report_value.ensures) i.ended.0 i.ended.1 (unseen_first kind.Equal _ (sym c.if-sees-2.ensures)) kept
 
-pub right-returns-in_err-found : goal.right-returns-in_err-found
-right-returns-in_err-found g t c =
+pub right-returns-in_err-item : goal.right-returns-in_err-item
+right-returns-in_err-item g t c =
     let x = failed c.from_residual.result c.from_residual.ensures.1 in
     let p = c.args.self.now in
     let q = took kind.Equal p c.advance.new.self c.requires c.advance.ensures in
-    λ s l f h. expr_exit _ _ l _ x (equal_fails h q c.in_err-found.ensures.gives)
+    λ s l f h. expr_exit _ _ l _ x (equal_fails h q c.in_err-item.ensures.gives)
 
 pub right-returns : goal.right-returns
 right-returns g t c =
     let p = c.args.self.now in
     let q = took kind.Equal p c.advance.new.self c.requires c.advance.ensures in
-    let i = c.in_ok-found.ensures in
-    let found = c.in_ok-found.found in
-    let put = c.report_value.ensures ∙ ap (λ n. fed g.S.Sink.after c.item.new.sink (reads_of found n)) c.place-from.ensures in
-    let j = read_item found c.advance.new.self c.item.new.self _ _ _ _ i.gives put in
+    let i = c.in_ok-item.ensures in
+    let j = read_item c.in_ok-item.item.found c.advance.new.self c.item.new.self _ _ _ _ i.gives c.report_value.ensures in
     λ s l f h. equal_read h q j i.ended.0 i.ended.1 c.put.ensures

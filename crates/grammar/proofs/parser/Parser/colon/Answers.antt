@@ -12,7 +12,7 @@ returns-in_err-name g c =
     record {
       goes = goes_exit p c.take.new.self x;
       gives = λ s l h.
-          let i = read_item c.args.found s p l _ _ _ h c.report_value.ensures in
+          let i = read_item c.args.item.found s p l _ _ _ h c.report_value.ensures in
           item_exit _ _ l _ _ x (reach_fails (reach_colon i t) c.in_err-name.ensures);
     }
 
@@ -23,5 +23,5 @@ returns g c =
     let n = c.in_ok-name.ensures in
     record {
       goes = gone (walk_took (took_walk {after = g.S.Sink.after} c.args.sink.now t) n);
-      gives = λ s l h. colon_plain (read_item c.args.found s p l _ _ _ h c.report_value.ensures) t n c.put.ensures;
+      gives = λ s l h. colon_plain (read_item c.args.item.found s p l _ _ _ h c.report_value.ensures) t n c.put.ensures;
     }
