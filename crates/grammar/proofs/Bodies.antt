@@ -38,9 +38,6 @@ module _ {X : Type 0} {after : X → Event → X} where
   pub took_path : {k : Kind} {p q : Parser} {at : ℕ} (l : X) (t : Took k p q at) → Path after p l q l (tok k t.mark ∷ []) []
   took_path l t = record { words = t.words; log = refl; end_is = t.end_is }
 
-pub type_length : {p q : Parser} {w : TypeWord} → ReadType p q w → length (rest q) ≤ length (rest p)
-type_length {q = q} t = omega (arith, ap length t.words, length-append (spell t.tree) (rest q))
-
 -- a path whose events nobody takes
 pub plain_path : {k : Kind} {p q : Parser} {at : ℕ} (t : Took k p q at) → Path {X = Unit {0}} (λ x e. x) p tt q tt (tok k t.mark ∷ []) []
 plain_path t = took_path tt t
@@ -254,20 +251,10 @@ unfolding spell
 stmt_some (act a s) = omega (arith, length-append (spell a) (tok kind.Semicolon s ∷ []))
 stmt_some (branch i o e c b ss f l g us h s) = omega arith
 
-pub decl_some : (t : Tree decl) → 0 < length (spell t)
-unfolding spell
-decl_some (class w n x p b vs ms f) = omega arith
-decl_some (relationship w n x p o y m z c b vs ms f) = omega arith
-
 module _ {X : Type 0} (after : X → Event → X) where
   pub stmt_falls : (r : Result (Unit {0}) Unexpected) (p q : Parser) (l m : X) (γ : Sym) (δ : List Sym → List Sym) → GivesTree after stmt p l r q m γ δ → Falls p r q
   stmt_falls (Ok _) p q l m γ δ t = tree_falls t.path (stmt_some t.tree)
   stmt_falls (Err e) p q l m γ δ t = tt
-
-module _ {X : Type 0} (after : X → Event → X) where
-  pub decl_falls : (r : Result (Unit {0}) Unexpected) (p q : Parser) (l m : X) (γ : Sym) (δ : List Sym → List Sym) → GivesTree after decl p l r q m γ δ → Falls p r q
-  decl_falls (Ok _) p q l m γ δ t = tree_falls t.path (decl_some t.tree)
-  decl_falls (Err e) p q l m γ δ t = tt
 
 module _ {X : Type 0} {after : X → Event → X} where
   pub block_read : {s p q r : Parser} {l m : X} {a b : ℕ} → Took kind.OpenBrace s p a → ReadTree after (many stmt) p l q m stmts (λ α. α) → Took kind.CloseBrace q r b → ReadBlock after s l r m
@@ -479,10 +466,6 @@ module _ {X : Type 0} {after : X → Event → X} where
     stuck = a.leads [] ∙ decls_done [] (rest q) nc nr ∙ ap (runs []) r ∙ over w ws;
     place_is = h;
   }
-
-module _ {X : Type 0} {after : X → Event → X} where
-  pub program_fails : {p q : Parser} {l m : X} {e : Unexpected} → ReadTree after (many decl) p l q m decls (λ α. decls ∷ α) → Fails q decls e → FailsProgram p e
-  program_fails a f = record { from = f.from; stuck = a.leads [] ∙ f.stuck []; place_is = f.place_is ∙ ap (λ n. place_at n f.from) a.path.end_is }
 
 -- by the answer of the last part
 module _ {X : Type 0} {after : X → Event → X} where

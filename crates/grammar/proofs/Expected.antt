@@ -11,12 +11,6 @@ use Rattle.grammar.proofs.Passing.{never_true}
 use Rattle.grammar.proofs.Steps.{ne_first}
 use Rattle.grammar.proofs.WordKinds.{is_true}
 
--- two lists of symbols expect the same where they do at the first word and at the end
-same_runs : (α β : List Sym) (ws : List Token) → ends α ≡ ends β → ((w : Token) (us : List Token) → ws ≡ w ∷ us → step α w.kind ≡ step β w.kind) → runs α ws ≡ runs β ws
-unfolding runs
-same_runs α β [] e h = ap (λ b. cond b None (Some [])) e
-same_runs α β (w ∷ ws) e h = ap (λ o. either o (Some (w ∷ ws)) (λ γ. runs γ ws)) (h w ws refl)
-
 -- a type that begins with no keyword is a name
 pub typed_name : (α : List Sym) (ws : List Token) → (kind_at ws ≡ Some kind.Boolean → ⊥) → (kind_at ws ≡ Some kind.Set → ⊥) → runs (typed ∷ α) ws ≡ runs (word kind.Name ∷ α) ws
 unfolding runs step ends type_then

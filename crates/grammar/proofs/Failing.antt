@@ -21,7 +21,7 @@ use Rattle.grammar.specs.declared.parser.items.Part.{Part}
 use Rattle.grammar.specs.declared.parser.items.Part.TheVariants as part
 use Rattle.grammar.specs.Events.{value_of, doing_of, side_of}
 use Rattle.grammar.specs.Machine.{Sym, word, start, more, dotted, named, runs, step, begin, onward, after_dot, ends, fresh, two, alone_is, literal_word, Use, whole, operand, Form, done, plain}
-use Rattle.grammar.specs.Told.{rest, kind_at, seen, place_at, form_of, AfterDot, Named, DottedBare, ReadTarget, ReadExpr, ReadItem, Took, Passed, Fails, Leads, Finds, FailsItem, GivesItem, GivesExpr, GivesPart, Goes, pairing_at, end_at, doing_kind, literal_at}
+use Rattle.grammar.specs.Told.{rest, kind_at, seen, place_at, form_of, AfterDot, Named, DottedBare, ReadTarget, ReadExpr, ReadItem, Took, Passed, Fails, Leads, Finds, FailsItem, GivesItem, GivesExpr, GivesPart, pairing_at, end_at, doing_kind, literal_at}
 use Rattle.grammar.specs.Trees.{literal_kind, pairing_kind, end_kind}
 use Rattle.grammar.specs.Trees as tree
 use Rattle.grammar.proofs.Items.{pair_step}
@@ -50,18 +50,6 @@ module _ {X : Type 0} (after : X → Event → X) where
 module _ {X : Type 0} (after : X → Event → X) where
   pub part_exit : {p : Parser} (q : Parser) (l m : X) {r : Result Part Unexpected} {e : Unexpected} → r ≡ Err e → Fails p (start whole) e → GivesPart after p l r q m
   part_exit {p} q l m x f = subst (λ (r : Result Part Unexpected). GivesPart after p l r q m) (sym x) f
-
-pub goes_exit : {A : Type 0} (p q : Parser) {r : Result A Unexpected} {e : Unexpected} → r ≡ Err e → Goes p r q
-goes_exit {A} p q x = subst (λ (r : Result A Unexpected). Goes p r q) (sym x) tt
-
--- words are passed
-pub goes_after : {A : Type 0} {k : Kind} {p q : Parser} {at : ℕ} → Took k p q at → (r : Result A Unexpected) (v : Parser) → Goes q r v → Goes p r v
-goes_after t (Ok f) v g = record { end_is = g.end_is ∙ t.end_is; shorter = omega (arith, ap length t.words, g.shorter) }
-goes_after t (Err e) v g = tt
-
-module _ {X : Type 0} (after : X → Event → X) where
-  pub finds_at : (f : Found) (p q : Parser) (l m : X) {a b : ℕ} → a ≡ b → Finds after p l b f q m → Finds after p l a f q m
-  finds_at f p q l m e h = subst (λ (n : ℕ). Finds after p l n f q m) (sym e) h
 
 module _ {X : Type 0} (after : X → Event → X) where
   pub finds_as : (p q : Parser) (l m : X) (at : ℕ) {f g : Found} → f ≡ g → Finds after p l at f q m → Finds after p l at g q m

@@ -10,7 +10,7 @@ use Rattle.grammar.specs.declared.parser.items.Found.{Found}
 use Rattle.grammar.specs.declared.parser.items.Found.TheVariants as found
 use Rattle.grammar.specs.Events.{events, fed, first_atom, first_item, value_of, doing_of, side_of}
 use Rattle.grammar.specs.Machine.{Sym, word, start, more, dotted, named, step, begin, onward, after_dot, fresh, two, alone_is, settable, Use, whole, operand, Form, bare, inner, done, plain}
-use Rattle.grammar.specs.Told.{rest, kind_at, reads_of, target_of, form_of, AfterDot, Named, DottedBare, ReadTarget, Took, Leads, Walk, ReadExpr, ReadItem, HeldBare, HeldInner, ReadDone, Finds, Gone}
+use Rattle.grammar.specs.Told.{rest, kind_at, reads_of, target_of, form_of, AfterDot, Named, DottedBare, ReadTarget, Took, Leads, Walk, ReadExpr, ReadItem, HeldBare, HeldInner, ReadDone, Finds}
 use Rattle.grammar.specs.Trees.{Mark, tok, Sort, many, suffix, Tree, expr, item, atom, creation, place, action, none, name, literal, paren, made, new, pair, member, call, instances, end, chain, inside, alone, equal, assign, calls, creates, spell, literal_kind, pairing_kind, end_kind}
 use Rattle.grammar.specs.Trees as tree
 use Rattle.grammar.proofs.Accepting.{some_inj, not_none}
@@ -58,10 +58,6 @@ module _ {X : Type 0} {after : X → Event → X} where
 module _ {X : Type 0} {after : X → Event → X} where
   pub walk_as : {p q : Parser} {l m : X} {us ws : List Token} {ds es : List Event} → us ≡ ws → ds ≡ es → Walk after p l q m us ds → Walk after p l q m ws es
   walk_as {q = q} {l} e f a = record { words = a.words ∙ ap (λ vs. vs ++ rest q) e; log = a.log ∙ ap (fed after l) f; end_is = a.end_is; shorter = a.shorter }
-
-module _ {X : Type 0} {after : X → Event → X} where
-  pub gone : {p q : Parser} {l m : X} {ws : List Token} {es : List Event} → Walk after p l q m ws es → Gone p q
-  gone a = record { end_is = a.end_is; shorter = a.shorter }
 
 -- one more at the end
 pub put_last : {s : Sort} → Tree (many s) → Tree s → Tree (many s)

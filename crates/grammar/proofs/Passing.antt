@@ -1,5 +1,5 @@
 -- One word is passed, or cannot come.
-use Rattle.std.proofs.Common.{◌≡◌, ℕ, ◌+◌, ◌≤◌, true, false, List, [], ◌∷◌, length, Some, None, Option, sym, refl, ap, ◌∙◌, arith, rules}
+use Rattle.std.proofs.Common.{◌≡◌, ℕ, ◌≤◌, true, false, List, [], ◌∷◌, length, Some, None, Option, sym, refl, ap, ◌∙◌, arith, rules}
 use Rattle.std.proofs.lemmas.Bool.Decides.{same_from_decides}
 use Rattle.std.specs.Option.{option_eq}
 use denote.Enum.Bare.{sameb, same_true, true_same}
@@ -12,7 +12,7 @@ use Rattle.words.specs.Words.{Token, unread, Reads}
 use Rattle.grammar.specs.declared.parser.Parser.{Parser}
 use Rattle.grammar.specs.declared.parser.reading.Unexpected.{Unexpected}
 use Rattle.grammar.specs.Machine.{Sym, word, runs, step, ends}
-use Rattle.grammar.specs.Told.{from_word, rest, kind_at, seen, place_at, Passed, Took, Fails}
+use Rattle.grammar.specs.Told.{rest, kind_at, seen, place_at, Passed, Took, Fails}
 use Rattle.grammar.specs.Trees.{Mark, tok}
 use Rattle.grammar.proofs.WordKinds.{is_same, is_other, is_true}
 
@@ -23,28 +23,10 @@ never e = absurd (omega arith)
 pub never_true : {A : Type 0} → false ≡ true → A
 never_true e = let z : ◌≡◌ {A = ℕ} 0 1 = cc in never z
 
-next_is : (r : Option Word) (c d : Cursor) → Reads c r d → from_word r d ≡ unread c
-next_is None c d e = sym e.0
-next_is (Some w) c d e = sym e
-
-pub advanced : (p q : Parser) → Reads p.cursor q.word q.cursor → q.end ≡ p.end → Passed p q
-advanced p q e n = record { rest_is = go p.word p.cursor (next_is q.word p.cursor q.cursor e); end_is = n }
-  where
-    go : (w : Option Word) (c : Cursor) → rest q ≡ unread c → (t : Token) (ts : List Token) → from_word w c ≡ t ∷ ts → rest q ≡ ts
-    go None c h t ts f = let z : ◌≡◌ {A = ℕ} 0 1 = cc in never z
-    go (Some x) c h t ts f = let g : unread c ≡ ts = cc in h ∙ g
-
 -- what is left is no more than before
 pub fewer : (c d : Cursor) (r : Option Word) (n : ℕ) → Reads c r d → length (unread c) ≤ n → length (unread d) ≤ n
 fewer c d None n e h = omega (arith, ap length e.1)
 fewer c d (Some w) n e h = omega (arith, ap length e)
-
-pub rest_few : (p : Parser) → length (rest p) ≤ length (unread p.cursor) + 1
-rest_few p = go p.word p.cursor
-  where
-    go : (w : Option Word) (c : Cursor) → length (from_word w c) ≤ length (unread c) + 1
-    go None c = omega arith
-    go (Some w) c = omega arith
 
 -- a word that is expected
 pub word_passes : (k : Kind) (m : Mark) (α : List Sym) (ws : List Token) → runs (word k ∷ α) (tok k m ∷ ws) ≡ runs α ws
