@@ -1,5 +1,7 @@
 -- How the parts of types, statements and declarations join.
 use Rattle.std.proofs.Common.{◌≡◌, ℕ, ◌<◌, ◌≤◌, Bool, true, false, ◌&&◌, List, [], ◌∷◌, ◌++◌, length, Some, None, Ok, Err, Result, sym, refl, ap, ◌∙◌, subst, append_assoc, append-nil, arith, length-append}
+use Rattle.std.proofs.lemmas.Option.{none-some}
+use Rattle.std.proofs.lemmas.Bool.{false≢true}
 use Rattle.words.specs.declared.kind.Kind.{Kind}
 use Rattle.words.specs.declared.kind.Kind.TheVariants as kind
 use Rattle.words.specs.Words.{Token}
@@ -19,10 +21,9 @@ use Rattle.grammar.specs.Machine.{Sym, word, start, typed as type-symbol, decls,
 use Rattle.grammar.specs.Told.{rest, kind_at, place_at, seen, variable_begins, type_begins, statement_begins, Took, Fails, Walk, ReadExpr, ReadItem, HeldBare, HeldInner, ReadDone, Finds, target_of}
 use Rattle.grammar.specs.Trees.{Mark, tok, Sort, many, Tree, expr, action, stmt, typed, variable, method, decl, none, inside, assigns, act, branch, boolean, set_of, row, declares, method_of, class, relationship, spell}
 use Rattle.grammar.specs.Trees as tree
-use Rattle.grammar.proofs.Accepting.{some_inj, not_none}
+use Rattle.grammar.proofs.Accepting.{over, some_inj}
 use Rattle.grammar.proofs.Expected.{typed_name, members_type, members_done, member_method, stmts_item, decls_done, acting_place, acting_stuck, body_variable, body_stmts}
 use Rattle.grammar.proofs.Items.{fed_append, put_last, last_spells, last_reports}
-use Rattle.grammar.proofs.Passing.{never_true}
 use Rattle.grammar.proofs.Steps.{step_leads, took_leads, more_done, fails_after}
 
 -- paths
@@ -165,8 +166,8 @@ module _ {X : Type 0} (after : X → Event → X) where
   pub target_place : (f : Found) (s p : Parser) (l m : X) (at : ℕ) (e : Event) → target_of f at ≡ Some e → Finds after s l at f p m → (kind_at (rest p) ≡ Some kind.Dot → ⊥) → (kind_at (rest p) ≡ Some kind.Colon → ⊥) → HeldPlace after s l p m at e
   target_place found.Bare s p l m at e t h nd nc = subst (HeldPlace after s l p m at) (some_inj _ _ t) (bare_place h nd nc)
   target_place (found.Inner n) s p l m at e t h nd nc = subst (HeldPlace after s l p m at) (some_inj _ _ t) (inner_place h nd nc)
-  target_place found.Done s p l m at e t h nd nc = not_none e t
-  target_place found.Plain s p l m at e t h nd nc = not_none e t
+  target_place found.Done s p l m at e t h nd nc = absurd (none-some e t)
+  target_place found.Plain s p l m at e t h nd nc = absurd (none-some e t)
 
 module _ {X : Type 0} {after : X → Event → X} where
   pub assign_action : {s p q r : Parser} {l m j k n : X} {at x : ℕ} {e : Event} → HeldPlace after s l p m at e → Took kind.Assign p q x → j ≡ after m (e) → ReadExpr after q j r k → n ≡ after k (event.Assigned) → ReadAction after s l r n at
@@ -201,8 +202,8 @@ module _ {X : Type 0} {after : X → Event → X} where
 module _ {X : Type 0} (after : X → Event → X) where
   pub no_target_fails : (f : Found) (s p : Parser) (l m : X) (at : ℕ) {e : Unexpected} → target_of f at ≡ None → (f ≡ found.Done → ⊥) → Finds after s l at f p m → (kind_at (rest p) ≡ Some kind.Dot → ⊥) → (kind_at (rest p) ≡ Some kind.Colon → ⊥)
       → e.place ≡ place_at p.end (rest p) → FailsAll s (λ α. start acting ∷ word kind.Semicolon ∷ α) e
-  no_target_fails found.Bare s p l m at t d h nd nc e = not_none _ (sym t)
-  no_target_fails (found.Inner n) s p l m at t d h nd nc e = not_none _ (sym t)
+  no_target_fails found.Bare s p l m at t d h nd nc e = absurd (none-some _ (sym t))
+  no_target_fails (found.Inner n) s p l m at t d h nd nc e = absurd (none-some _ (sym t))
   no_target_fails found.Done s p l m at t d h nd nc e = absurd (d refl)
   no_target_fails found.Plain s p l m at t d h nd nc e = plain_fails h nd nc e
 
@@ -348,7 +349,7 @@ module _ {X : Type 0} {after : X → Event → X} where
 module _ {X : Type 0} {after : X → Event → X} where
   pub gather_field : (x : Section) (p q r : Parser) (l m n : X) → fields_in x ≡ true → Gathered after x p l q m → ReadTree after variable q m r n (members true) (λ α. members true ∷ α) → Gathered after section.Fields p l r n
   gather_field section.Fields p q r l m n e a b = some_more a b
-  gather_field section.Methods p q r l m n e a b = never_true e
+  gather_field section.Methods p q r l m n e a b = absurd (false≢true e)
 
 module _ {X : Type 0} {after : X → Event → X} where
   pub gather_method : (x : Section) (p q r : Parser) (l m n : X) → Gathered after x p l q m → ReadTree after method q m r n (members (fields_in x)) (λ α. members false ∷ α) → ReadBoth after p l r n
@@ -453,10 +454,6 @@ module _ {X : Type 0} {after : X → Event → X} where
 module _ {X : Type 0} {after : X → Event → X} where
   pub program_read : {p q : Parser} {l m : X} → ReadTree after (many decl) p l q m decls (λ α. decls ∷ α) → rest q ≡ [] → ReadProgram after p l m
   program_read a e = record { tree = a.tree; words = a.path.words ∙ ap (λ us. spell a.tree ++ us) e ∙ append-nil (spell a.tree); log = a.path.log }
-
-over : (w : Token) (ws : List Token) → runs [] (w ∷ ws) ≡ Some (w ∷ ws)
-unfolding runs step
-over w ws = refl
 
 module _ {X : Type 0} {after : X → Event → X} where
   pub program_stops : {p q : Parser} {l m : X} {e : Unexpected} (w : Token) (ws : List Token) → ReadTree after (many decl) p l q m decls (λ α. decls ∷ α) → rest q ≡ w ∷ ws

@@ -1,5 +1,6 @@
 -- How the parts of an item join.
 use Rattle.std.proofs.Common.{◌≡◌, ℕ, zero, suc, ◌+◌, ◌≤◌, Bool, true, false, List, [], ◌∷◌, ◌++◌, length, replicate, Some, None, sym, refl, ap, ◌∙◌, subst, append_assoc, append-nil, arith, length-append}
+use Rattle.std.proofs.lemmas.Option.{none-some}
 use Rattle.words.specs.declared.kind.Kind.{Kind}
 use Rattle.words.specs.declared.kind.Kind.TheVariants as kind
 use Rattle.words.specs.Words.{Token}
@@ -13,7 +14,7 @@ use Rattle.grammar.specs.Machine.{Sym, word, start, more, dotted, named, step, b
 use Rattle.grammar.specs.Told.{rest, kind_at, reads_of, target_of, form_of, AfterDot, Named, DottedBare, ReadTarget, Took, Leads, Walk, ReadExpr, ReadItem, HeldBare, HeldInner, ReadDone, Finds}
 use Rattle.grammar.specs.Trees.{Mark, tok, Sort, many, suffix, Tree, expr, item, atom, creation, place, action, none, name, literal, paren, made, new, pair, member, call, instances, end, chain, inside, alone, equal, assign, calls, creates, spell, literal_kind, pairing_kind, end_kind}
 use Rattle.grammar.specs.Trees as tree
-use Rattle.grammar.proofs.Accepting.{some_inj, not_none}
+use Rattle.grammar.proofs.Accepting.{some_inj}
 use Rattle.grammar.proofs.Steps.{step_leads, took_leads, named_done, more_done}
 
 -- events one after another
@@ -354,13 +355,13 @@ module _ {X : Type 0} (after : X → Event → X) where
   pub target_read : (f : Found) (p q : Parser) (l m : X) (at : ℕ) (e : Event) {r : Parser} {n : X} {x : ℕ} → target_of f at ≡ Some e → Finds after p l at f q m → Took kind.Assign q r x → n ≡ after m e → ReadTarget after p l r n
   target_read found.Bare p q l m at e s h t put = bare_target h t (put ∙ ap (after m) (sym (some_inj _ _ s)))
   target_read (found.Inner y) p q l m at e s h t put = inner_target h t (put ∙ ap (after m) (sym (some_inj _ _ s)))
-  target_read found.Done p q l m at e s h t put = not_none e s
-  target_read found.Plain p q l m at e s h t put = not_none e s
+  target_read found.Done p q l m at e s h t put = absurd (none-some e s)
+  target_read found.Plain p q l m at e s h t put = absurd (none-some e s)
 
 -- what is no target cannot be assigned to
 pub no_target : (f : Found) (at : ℕ) → target_of f at ≡ None → settable (form_of f) ≡ false
-no_target found.Bare at e = not_none _ (sym e)
-no_target (found.Inner y) at e = not_none _ (sym e)
+no_target found.Bare at e = absurd (none-some _ (sym e))
+no_target (found.Inner y) at e = absurd (none-some _ (sym e))
 no_target found.Done at e = refl
 no_target found.Plain at e = refl
 

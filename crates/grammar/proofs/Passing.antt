@@ -1,5 +1,7 @@
 -- One word is passed, or cannot come.
 use Rattle.std.proofs.Common.{◌≡◌, ℕ, ◌≤◌, true, false, List, [], ◌∷◌, length, Some, None, Option, sym, refl, ap, ◌∙◌, arith, rules}
+use Rattle.std.proofs.lemmas.Option.{none-some}
+use Rattle.std.proofs.lemmas.Bool.{false≢true}
 use Rattle.std.proofs.lemmas.Bool.Decides.{same_from_decides}
 use Rattle.std.specs.Option.{option_eq}
 use denote.Enum.Bare.{sameb, same_true, true_same}
@@ -15,13 +17,6 @@ use Rattle.grammar.specs.Machine.{Sym, word, runs, step, ends}
 use Rattle.grammar.specs.Told.{rest, kind_at, seen, place_at, Passed, Took, Fails}
 use Rattle.grammar.specs.Trees.{Mark, tok}
 use Rattle.grammar.proofs.WordKinds.{is_same, is_other, is_true}
-
--- impossible
-pub never : {A : Type 0} → ◌≡◌ {A = ℕ} 0 1 → A
-never e = absurd (omega arith)
-
-pub never_true : {A : Type 0} → false ≡ true → A
-never_true e = let z : ◌≡◌ {A = ℕ} 0 1 = cc in never z
 
 -- what is left is no more than before
 pub fewer : (c d : Cursor) (r : Option Word) (n : ℕ) → Reads c r d → length (unread c) ≤ n → length (unread d) ≤ n
@@ -41,19 +36,19 @@ word_stops k α (w ∷ ws) ne = let h : is k w.kind ≡ false = is_other k w.kin
 
 -- the first word, by its kind
 pub first_word : (k : Kind) (ws : List Token) → kind_at ws ≡ Some k → (m : Mark) × (us : List Token) × (ws ≡ tok k m ∷ us)
-first_word k [] e = let z : ◌≡◌ {A = ℕ} 0 1 = cc in never z
+first_word k [] e = absurd (none-some k e)
 first_word k (w ∷ ws) e = let f : w.kind ≡ k = cc in (record { place = w.place; bytes = w.bytes }, ws, λ i. record { kind = f i; place = w.place; bytes = w.bytes } ∷ ws)
 
 pub seen_first : (k : Kind) (ws : List Token) → seen k ws ≡ true → kind_at ws ≡ Some k
-seen_first k [] e = never_true e
+seen_first k [] e = absurd (false≢true e)
 seen_first k (w ∷ ws) e = ap Some (is_true k w.kind e)
 
 first_seen : (k : Kind) (ws : List Token) → kind_at ws ≡ Some k → seen k ws ≡ true
-first_seen k [] e = let z : ◌≡◌ {A = ℕ} 0 1 = cc in never z
+first_seen k [] e = absurd (none-some k e)
 first_seen k (w ∷ ws) e = let g : k ≡ w.kind = cc in is_same k w.kind g
 
 pub unseen_first : (k : Kind) (ws : List Token) → seen k ws ≡ false → kind_at ws ≡ Some k → ⊥
-unseen_first k ws e f = never_true (sym e ∙ first_seen k ws f)
+unseen_first k ws e f = absurd (false≢true (sym e ∙ first_seen k ws f))
 
 pub seen_is : (k : Kind) (ws : List Token) → option_eq (sameb the_type) (kind_at ws) (Some k) ≡ seen k ws
 seen_is k [] = refl
