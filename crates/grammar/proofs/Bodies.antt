@@ -1,5 +1,5 @@
 -- How the parts of types, statements and declarations join.
-use Rattle.std.proofs.Common.{◌≡◌, ℕ, ◌<◌, ◌≤◌, Bool, true, false, ◌&&◌, List, [], ◌∷◌, ◌++◌, length, Some, None, Ok, Err, Result, sym, refl, ap, ◌∙◌, subst, append_assoc, append-nil, arith, length-append}
+use Rattle.std.proofs.Common.{◌≡◌, ℕ, ◌<◌, Bool, true, false, ◌&&◌, List, [], ◌∷◌, ◌++◌, length, Some, None, Ok, Err, Result, sym, refl, ap, ◌∙◌, subst, append_assoc, append-nil, arith, length-append}
 use Rattle.std.proofs.lemmas.Option.{none-some}
 use Rattle.std.proofs.lemmas.Bool.{false≢true}
 use Rattle.words.specs.declared.kind.Kind.{Kind}
@@ -70,14 +70,6 @@ module _ {X : Type 0} {after : X → Event → X} where
 module _ {X : Type 0} {after : X → Event → X} where
   pub path_as : {p q : Parser} {l m : X} {us ws : List Token} {ds es : List Event} → us ≡ ws → ds ≡ es → Path after p l q m us ds → Path after p l q m ws es
   path_as {q = q} {l} e f a = record { words = a.words ∙ ap (λ vs. vs ++ rest q) e; log = a.log ∙ ap (fed after l) f; end_is = a.end_is }
-
--- no more words are left than before
-module _ {X : Type 0} {after : X → Event → X} where
-  pub path_length : {p q : Parser} {l m : X} {ws : List Token} {es : List Event} → Path after p l q m ws es → length (rest q) ≤ length (rest p)
-  path_length {q = q} {ws = ws} a = omega (arith, ap length a.words, length-append ws (rest q))
-
-pub took_shorter : {k : Kind} {p q : Parser} {at : ℕ} → Took k p q at → length (rest q) < length (rest p)
-took_shorter t = omega (arith, ap length t.words)
 
 -- what fails later fails
 pub fails_from : {s q : Parser} {e : Unexpected} (γ δ then : List Sym → List Sym) → ((α : List Sym) → runs (γ α) (rest s) ≡ runs (δ (then α)) (rest q)) → q.end ≡ s.end → FailsAll q δ e → FailsAll s γ e

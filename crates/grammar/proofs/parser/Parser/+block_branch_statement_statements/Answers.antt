@@ -1,7 +1,6 @@
-use Rattle.std.proofs.Common.{◌<◌, ◌≤◌, List, ◌∷◌, length, sym, ◌∙◌, arith, rules}
+use Rattle.std.proofs.Common.{List, ◌∷◌, sym, ◌∙◌}
 use Rattle.words.specs.declared.kind.Kind.TheVariants as kind
 use Rattle.grammar.specs.Machine.{Sym, word, start, stmts, whole}
-use Rattle.grammar.specs.Told.{rest}
 use Rattle.grammar.specs.Trees as tree
 use Rattle.grammar.proofs.Bodies
 use Rattle.grammar.proofs.Expected
@@ -25,10 +24,6 @@ at_first α = word kind.OpenBrace ∷ stmts ∷ word kind.CloseBrace ∷ at_else
 
 abbrev at_block : List Sym → List Sym
 at_block α = word kind.OpenBrace ∷ stmts ∷ word kind.CloseBrace ∷ α
-
-pub block-statements-requires : goal.block-statements-requires
-block-statements-requires g t c κs within =
-    let h : length (rest c.take.new.self) < length (rest c.args.self.now) = Bodies.took_shorter c.in_ok-take.ensures in search rules
 
 pub block-returns-in_err-statements : goal.block-returns-in_err-statements
 block-returns-in_err-statements g t c =
@@ -79,18 +74,6 @@ branch-returns-in_err-take-3 g t c =
     let b = c.in_ok-block.ensures in
     rw (failed c.from_residual-in_err-take-3.result c.from_residual-in_err-take-3.ensures.1) (fails_after stmts (word kind.Else) at_second (λ α. Bodies.if_lead i α ∙ took_leads o _ ∙ e.leads _ ∙ took_leads k _ ∙ b.leads _) (b.path.end_is ∙ k.end_is ∙ e.walk.end_is ∙ o.end_is ∙ i.end_is) c.in_err-take-3.ensures)
 
-pub branch-block-requires-2 : goal.branch-block-requires-2
-branch-block-requires-2 g t c κs within =
-    let i = took kind.If c.args.self.now _ c.requires c.advance.ensures in
-    let o = c.in_ok-take.ensures in
-    let e = c.in_ok-expr.ensures in
-    let k = c.in_ok-take-2.ensures in
-    let b = c.in_ok-block.ensures in
-    let l = c.in_ok-take-3.ensures in
-    let h : length (rest c.take-3.new.self) < length (rest c.args.self.now) =
-    omega (arith, Bodies.took_shorter i, Bodies.took_shorter o, e.walk.shorter, Bodies.took_shorter k, Bodies.path_length b.path, Bodies.took_shorter l) in
-    search rules
-
 pub branch-returns-in_err-block-2 : goal.branch-returns-in_err-block-2
 branch-returns-in_err-block-2 g t c =
     let i = took kind.If c.args.self.now _ c.requires c.advance.ensures in
@@ -118,26 +101,14 @@ branch-returns g t c =
     Bodies.branch_read i c.in_ok-take.ensures c.in_ok-expr.ensures c.in_ok-take-2.ensures c.put.ensures c.in_ok-block.ensures c.in_ok-take-3.ensures
     c.put-2.ensures c.in_ok-block-2.ensures c.in_ok-take-4.ensures c.put-3.ensures
 
-pub statement-returns-then-sees : goal.statement-returns-then-sees
-statement-returns-then-sees g t c = record {
-  gives = c.branch-self.ensures;
-  falls = Bodies.stmt_falls g.S.Sink.after c.branch-self.result c.args.self.now c.branch-self.new.self c.args.sink.now c.branch-self.new.sink stmts (λ α. stmts ∷ α) c.branch-self.ensures;
-}
+pub statement-returns-then-sees-clause-falls : goal.statement-returns-then-sees-clause-falls
+statement-returns-then-sees-clause-falls g t c = Bodies.stmt_falls g.S.Sink.after c.branch-self.result c.args.self.now c.branch-self.new.self c.args.sink.now c.branch-self.new.sink stmts (λ α. stmts ∷ α) c.branch-self.ensures
 
-pub statement-returns-else-sees : goal.statement-returns-else-sees
-statement-returns-else-sees g t c = record {
-  gives = c.action.ensures;
-  falls = Bodies.stmt_falls g.S.Sink.after c.action.result c.args.self.now c.action.new.self c.args.sink.now c.action.new.sink stmts (λ α. stmts ∷ α) c.action.ensures;
-}
+pub statement-returns-else-sees-clause-falls : goal.statement-returns-else-sees-clause-falls
+statement-returns-else-sees-clause-falls g t c = Bodies.stmt_falls g.S.Sink.after c.action.result c.args.self.now c.action.new.self c.args.sink.now c.action.new.sink stmts (λ α. stmts ∷ α) c.action.ensures
 
 pub statements-loop-self-init : goal.statements-loop-self-init
 statements-loop-self-init g t c = Bodies.some_none tree.stmt stmts _ _
-
-pub statements-statement-requires : goal.statements-statement-requires
-statements-statement-requires g t c κs within =
-    let h = sym c.loop-self-test.ensures in
-    let k : length (rest c.loop-self.self) ≤ length (rest c.args.self.now) = Bodies.path_length c.loop-self.invariant.path in
-    search rules
 
 pub statements-loop-self-preserved : goal.statements-loop-self-preserved
 statements-loop-self-preserved g t c = Bodies.some_more c.loop-self.invariant c.in_ok-statement.ensures.gives
