@@ -6,11 +6,11 @@ use Rattle.grammar.specs.Events.{events, fed, first_item, first_atom, type_of}
 use Rattle.grammar.proofs.Items.{fed_append}
 use Rattle.grammar.specs.Trees.{Sort, expr, item, atom, creation, suffix, place, action, stmt, variable, method, decl, many, Tree, none, more, name, literal, paren, made, new, pair, member, call, instances, end, chain, bare, inside, alone, equal, assign, assigns, calls, creates, act, branch, declares, method_of, class, relationship}
 use Rattle.grammar.specs.Trees as tree
-use Rattle.outline.specs.declared.entry.Open.{Open}
+use Rattle.outline.specs.declared.builder.pending.Open.{Open}
 use Rattle.outline.specs.declared.entry.Shape.TheVariants as shape
 use Rattle.outline.specs.Layout.{Layout, laid, add_class, add_relationship, add_declared, add_method, add_node, add_block, next, newest}
 use Rattle.outline.specs.Limits.{height, crowd, how_many}
-use Rattle.outline.specs.Drafts.{Draft, draft, taken, held, to_variable, to_member, heighten, parted, settled_in, above}
+use Rattle.outline.specs.Drafts.{Draft, draft, taken, held, to_variable, to_member, heighten, in_first, parted, settled_in, above}
 use Rattle.outline.proofs.Heights.{cap, cap_above, cap_both, cap_settled}
 
 -- the events es lead from d to e
@@ -183,10 +183,10 @@ mutual
       let K = tall s (cap h) in
       then (expr_laid e 0 l O x K v w)
       (after (event.Branch i.place)
-      (from (ap (λ c. draft b' (held (next e') (cap (height 0 e)) ∷ O) c K v w) (counted (next e') x))
-      (then (stmts_laid ss 0 (height 0 e) b' (within (held (next e') 0) O K) x v w)
+      (from (ap (λ c. draft b' (in_first (next e') (cap (height 0 e)) ∷ O) c K v w) (counted (next e') x))
+      (then (stmts_laid ss 0 (height 0 e) b' (within (in_first (next e') 0) O K) x v w)
       (after event.Otherwise
-      (then (stmts_laid us 0 (height (height 0 e) ss) (laid 0 ss b') (within (parted (next (laid 0 ss b')) (held (next e') 0)) O K) x v w)
+      (then (stmts_laid us 0 (height (height 0 e) ss) (laid 0 ss b') (within (parted (next (laid 0 ss b')) (in_first (next e') 0)) O K) x v w)
       (by (join_done (laid 0 (branch i o e c b ss f g j us k q) l) s h (height (height (height 0 e) ss) us) (next (laid 0 us (laid 0 ss b')) + x) v w)))))))
 
   stmts_laid : (t : Tree (many stmt)) → Stated t

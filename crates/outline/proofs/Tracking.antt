@@ -1,5 +1,5 @@
 -- The builder follows the draft, as long as no limit is passed.
-use Rattle.std.proofs.Common.{◌≡◌, ℕ, suc, pred, ◌+◌, ◌-◌, ◌*◌, ◌<◌, ◌≤◌, min, max, Bool, true, false, cond, List, [], ◌∷◌, reverse, length, Some, None, Option, sym, refl, ap, ◌∙◌, subst, sub-one, arith}
+use Rattle.std.proofs.Common.{◌≡◌, ℕ, suc, pred, ◌+◌, ◌-◌, ◌*◌, ◌<◌, ◌≤◌, min, max, Bool, true, false, cond, List, [], ◌∷◌, reverse, length, Some, None, Option, unwrap_or, sym, refl, ap, ◌∙◌, subst, sub-one, arith}
 use Rattle.std.proofs.lemmas.Bool.Decides.{nat_tests}
 use Rattle.std.proofs.lemmas.Bool.{both_ways}
 use Rattle.grammar.specs.declared.event.TypeWord.{TypeWord}
@@ -9,12 +9,14 @@ use Rattle.tables.specs.declared.table.Table.{Table}
 use Rattle.tables.specs.Listed.{listed, shortened, newest}
 use Rattle.outline.specs.declared.entry.Shape.{Shape}
 use Rattle.outline.specs.declared.entry.Shape.TheVariants as shape
-use Rattle.outline.specs.declared.entry.Open.{Open}
+use Rattle.outline.specs.declared.builder.pending.Pending.{Pending}
+use Rattle.outline.specs.declared.builder.pending.Pending.TheVariants as pending
+use Rattle.outline.specs.declared.builder.pending.Open.{Open}
 use Rattle.outline.specs.declared.builder.Tally.{Tally}
 use Rattle.outline.specs.declared.builder.Builder.{Builder}
 use Rattle.outline.specs.Layout.{Layout, node, block, class_row, relationship_row, field_entry, variable_entry, method_entry, add_class, add_relationship, add_declared, add_method, add_node, add_block, next}
-use Rattle.outline.specs.Drafts.{Draft, draft, taken, leaf, unary, binary, held, to_variable, to_member, heighten, parted, target_shape, target_part, above, top, below, on_top, settled_in, with_opened, assigned, statement, branching, joining, declaring, in_layout, value_shape, doing_shape, side_shape}
-use Rattle.outline.specs.Building.{raised, counting, opening, closing, top_of, or_nothing, next_node, last_method, counted, with_node, node_added, block_added, leaf_added, unary_added, binary_added, variable_targeted, assigning, assigned_in, settling, statement_added, branch_added, joined_in, replaced, class_added, relationship_added, field_added, local_added, method_added, declared_in, with_height, settled_at, built}
+use Rattle.outline.specs.Drafts.{Draft, draft, taken, leaf, unary, binary, held, to_variable, to_member, heighten, in_first, parted, value_of, above, top, below, on_top, settled_in, with_opened, assigned_to, assigned, statement, branching, joining_to, joining, declaring, in_layout, value_shape, doing_shape, side_shape}
+use Rattle.outline.specs.Building.{raised, counting, opening, closing, top_of, next_node, last_method, counted, with_node, node_added, block_added, leaf_added, unary_added, binary_added, variable_targeted, assigned_in, assigned_at, settling, statement_added, branch_added, joined_in, joined_at, replaced, class_added, relationship_added, field_added, local_added, method_added, declared_in, with_height, settled_at, built}
 use Rattle.outline.proofs.Shown.{Shows, show_length, show_push, show_drop, show_drop_none, show_newest, show_none}
 
 -- the tables hold the layout, and what is open is o
@@ -87,8 +89,8 @@ next_is : {b : Builder} {l : Layout} {o : List Open} {k : ℕ} → Same b l o k 
 next_is h = show_length h.nodes
 
 top_is : {b : Builder} {l : Layout} (o : List Open) {k : ℕ} → Same b l o k → top_of b ≡ top o
-top_is [] h = ap or_nothing (show_none h.opened)
-top_is (x ∷ o) h = ap or_nothing (show_newest h.opened)
+top_is [] h = ap (λ x. unwrap_or x (held 0 0)) (show_none h.opened)
+top_is (x ∷ o) h = ap (λ x. unwrap_or x (held 0 0)) (show_newest h.opened)
 
 same_node : {b : Builder} {l : Layout} {o : List Open} {k : ℕ} (s : Shape) (p : ℕ) {x y x' y' : Option ℕ} → x ≡ x' → y ≡ y' → Same b l o k → length l.nodes < 2048
     → Same (node_added b s p x y) (add_node s p x' y' l) o k
@@ -159,10 +161,10 @@ same_counted h =
       tallest = h.tallest;
     }
 
-same_block : {b : Builder} {l : Layout} {o : List Open} {k : ℕ} (x : Open) → Same b l o k → length l.blocks < 2048
-    → Same (block_added b x.node x.name) (add_block x.node x.name (next l) l) o k
+same_block : {b : Builder} {l : Layout} {o : List Open} {k : ℕ} (x n : ℕ) → Same b l o k → length l.blocks < 2048
+    → Same (block_added b x n) (add_block x n (next l) l) o k
 unfolding add_block
-same_block x h room =
+same_block x n h room =
     record {
       classes = h.classes;
       relationships = h.relationships;
@@ -170,7 +172,7 @@ same_block x h room =
       methods = h.methods;
       variables = h.variables;
       nodes = h.nodes;
-      blocks = show_push (ap (λ j. block x.node x.name j) (next_is h)) h.blocks room;
+      blocks = show_push (ap (λ j. block x n j) (next_is h)) h.blocks room;
       opened = h.opened;
       owner = h.owner;
       tallest = h.tallest;
@@ -191,7 +193,7 @@ same_tallest g h =
       tallest = ap (λ y. max y g) h.tallest;
     }
 
-below_less : (o : List Open) → length (below o) ≤ length o
+below_less : (o : List Open) → length (below o) ≤ length o - 1
 below_less [] = omega arith
 below_less (x ∷ o) = omega arith
 
@@ -207,7 +209,7 @@ same_replaced {b} {l} (x ∷ o) {k} f g e h room =
     subst P (sym (show_newest h.opened)) (same_open (e x) (same_close (x ∷ o) h) (omega arith))
 
 same_settled : {b : Builder} {l : Layout} (o : List Open) (c v w : ℕ) {k g g' : ℕ} → g ≡ g' → Same b l o k → length o ≤ 2048
-    → Same (settling b g) l (settled_in o g' (draft l o c k v w)).opened (settled_in o g' (draft l o c k v w)).tallest
+    → let D = settled_in o g' (draft l o c k v w) in Same (settling b g) D.layout D.opened D.tallest
 same_settled {b} {l} [] c v w {k} {g} {g'} e h room =
     let P : Option Open → Type 0 = λ t. Same (settled_at t g b) l [] (max k g') in
     let Q : ℕ → Type 0 = λ y. Same (counting (with_height g b.tally) b) l [] (max k y) in
@@ -221,46 +223,35 @@ same_settled {b} {l} (x ∷ o) c v w {k} {g} {g'} e h room =
 held_as : {n m g h : ℕ} → n ≡ m → g ≡ h → held n g ≡ held m h
 held_as {n} {m} {g} {h} e f = ap (λ y. held y g) e ∙ ap (λ y. held m y) f
 
+first_as : {n m g h : ℕ} → n ≡ m → g ≡ h → in_first n g ≡ in_first m h
+first_as {n} {m} {g} {h} e f = ap (λ y. in_first y g) e ∙ ap (λ y. in_first m y) f
+
 same_leaf : {b : Builder} {l : Layout} {o : List Open} {k : ℕ} (s : Shape) (p : ℕ) → Same b l o k → length l.nodes < 2048 → length o < 2048
     → Same (leaf_added b s p) (add_node s p None None l) (held (next l) 1 ∷ o) k
 same_leaf s p h r q = same_counted (same_open (held_as (next_is h) refl) (same_node s p refl refl h r) q)
 
 same_unary : {b : Builder} {l : Layout} (o : List Open) {k : ℕ} (s : Shape) (p : ℕ) → Same b l o k → length l.nodes < 2048 → length (below o) < 2048
-    → Same (unary_added b s p) (add_node s p (Some (top o).node) None l) (held (next l) (above (top o).height) ∷ below o) k
+    → Same (unary_added b s p) (add_node s p (value_of (top o).pending) None l) (held (next l) (above (top o).height) ∷ below o) k
 same_unary o s p h r q =
     let e = top_is o h in
-    same_counted (same_open (held_as (next_is h) (ap (λ x. above x.height) e)) (same_node s p (ap (λ x. Some x.node) e) refl (same_close o h) r) q)
+    same_counted (same_open (held_as (next_is h) (ap (λ x. above x.height) e)) (same_node s p (ap (λ x. value_of x.pending) e) refl (same_close o h) r) q)
 
 same_branch : {b : Builder} {l : Layout} (o : List Open) {k : ℕ} (p : ℕ) → Same b l o k → length l.nodes < 2048 → length (below o) < 2048
-    → Same (branch_added b p) (add_node shape.Branch p (Some (top o).node) None l) (held (next l) (top o).height ∷ below o) k
+    → Same (branch_added b p) (add_node shape.Branch p (value_of (top o).pending) None l) (in_first (next l) (top o).height ∷ below o) k
 same_branch o p h r q =
     let e = top_is o h in
-    same_counted (same_open (held_as (next_is h) (ap (λ x. x.height) e)) (same_node shape.Branch p (ap (λ x. Some x.node) e) refl (same_close o h) r) q)
+    same_counted (same_open (first_as (next_is h) (ap (λ x. x.height) e)) (same_node shape.Branch p (ap (λ x. value_of x.pending) e) refl (same_close o h) r) q)
 
 higher : {x y x' y' : Open} → x ≡ x' → y ≡ y' → above (max x.height y.height) ≡ above (max x'.height y'.height)
 higher {x} {y} {x'} {y'} e f = ap (λ z. above (max z.height y.height)) e ∙ ap (λ z. above (max x'.height z.height)) f
 
 same_binary : {b : Builder} {l : Layout} (o : List Open) {k : ℕ} (s : Shape) (p : ℕ) → Same b l o k → length l.nodes < 2048 → length (below (below o)) < 2048
-    → Same (binary_added b s p) (add_node s p (Some (top (below o)).node) (Some (top o).node) l)
+    → Same (binary_added b s p) (add_node s p (value_of (top (below o)).pending) (value_of (top o).pending) l)
     (held (next l) (above (max (top (below o)).height (top o).height)) ∷ below (below o)) k
 same_binary o s p h r q =
     let e = top_is o h in
     let f = top_is (below o) (same_close o h) in
-    same_counted (same_open (held_as (next_is h) (higher f e)) (same_node s p (ap (λ x. Some x.node) f) (ap (λ x. Some x.node) e) (same_close (below o) (same_close o h)) r) q)
-
-same_assigning : {b : Builder} {l : Layout} (e : Open) (o : List Open) {k : ℕ} → Same b l (e ∷ o) k → length l.nodes < 2048 → length (below o) < 2048
-    → Same (assigning b e)
-    (add_node (target_shape (top o)) (top o).place (target_part (top o)) (Some e.node) l)
-    (held (next l) (above (max (top o).height e.height)) ∷ below o) k
-same_assigning {b} {l} e o {k} h r q =
-    let f = top_is o (same_close (e ∷ o) h) in
-    let P : Open → Type 0 =
-    λ t. Same (opening (node_added (closing (closing b)) (target_shape t) t.place (target_part t) (Some e.node)) (held (next_node b) (above (max t.height e.height))))
-    (add_node (target_shape (top o)) (top o).place (target_part (top o)) (Some e.node) l)
-    (held (next l) (above (max (top o).height e.height)) ∷ below o) k
-    in
-    subst P (sym f)
-    (same_open (held_as (next_is h) refl) (same_node (target_shape (top o)) (top o).place refl refl (same_close o (same_close (e ∷ o) h)) r) q)
+    same_counted (same_open (held_as (next_is h) (higher f e)) (same_node s p (ap (λ x. value_of x.pending) f) (ap (λ x. value_of x.pending) e) (same_close (below o) (same_close o h)) r) q)
 
 -- Counts and bounds, step by step.
 
@@ -286,20 +277,6 @@ counts_more {t} {l} {c} h =
       fields = h.fields;
       methods = h.methods;
       nodes = raise 2048 t.nodes c h.nodes;
-      locals = h.locals;
-      most = h.most;
-      in_method = h.in_method;
-    }
-
-counts_assigned : {t : Tally} {l : Layout} {c v w : ℕ} (s : Shape) (p : ℕ) (x y : Option ℕ) → Counts t l c v w → Counts t (add_node s p x y l) c v w
-unfolding add_node
-counts_assigned s p x y h =
-    record {
-      classes = h.classes;
-      relationships = h.relationships;
-      fields = h.fields;
-      methods = h.methods;
-      nodes = h.nodes;
       locals = h.locals;
       most = h.most;
       in_method = h.in_method;
@@ -405,11 +382,11 @@ tracks_unary {b} {d} s p t =
     let few = t.fine.opened in
     let less = below_less d.opened in
     record {
-      counts = counts_node s p (Some (top d.opened).node) None t.counts;
-      fine = fine_node s p (Some (top d.opened).node) None _ _ t.fine (omega arith);
+      counts = counts_node s p (value_of (top d.opened).pending) None t.counts;
+      fine = fine_node s p (value_of (top d.opened).pending) None _ _ t.fine (omega arith);
       same =
           λ m. let q = m.count in
-          same_unary d.opened s p (t.same (shrink_node s p (Some (top d.opened).node) None m (omega arith))) (room_node d.layout s p (Some (top d.opened).node) None m) (omega arith);
+          same_unary d.opened s p (t.same (shrink_node s p (value_of (top d.opened).pending) None m (omega arith))) (room_node d.layout s p (value_of (top d.opened).pending) None m) (omega arith);
     }
 
 tracks_binary : {b : Builder} {d : Draft} (s : Shape) (p : ℕ) → Tracks b d → Tracks (binary_added b s p) (binary s p d)
@@ -417,8 +394,8 @@ tracks_binary {b} {d} s p t =
     let few = t.fine.opened in
     let less = below_less d.opened in
     let lesser = below_less (below d.opened) in
-    let x = Some (top (below d.opened)).node in
-    let y = Some (top d.opened).node in
+    let x = value_of (top (below d.opened)).pending in
+    let y = value_of (top d.opened).pending in
     record {
       counts = counts_node s p x y t.counts;
       fine = fine_node s p x y _ _ t.fine (omega arith);
@@ -431,7 +408,7 @@ tracks_branch : {b : Builder} {d : Draft} (p : ℕ) → Tracks b d → Tracks (b
 tracks_branch {b} {d} p t =
     let few = t.fine.opened in
     let less = below_less d.opened in
-    let x = Some (top d.opened).node in
+    let x = value_of (top d.opened).pending in
     record {
       counts = counts_node shape.Branch p x None t.counts;
       fine = fine_node shape.Branch p x None _ _ t.fine (omega arith);
@@ -473,37 +450,68 @@ tracks_to_variable {b} {d} p t =
       same = λ m. let q = m.count in same_counted (same_open refl (t.same (shrink_count m (omega arith))) (omega arith));
     }
 
-assigned_counts : (b : Builder) (d : Draft) (x : Option Open) (o : List Open) → Counts b.tally d.layout d.count d.locals d.most
-    → Counts (assigned_in x b).tally (assigned o d).layout (assigned o d).count (assigned o d).locals (assigned o d).most
-assigned_counts b d None [] h = h
-assigned_counts b d None (e ∷ o) h = counts_assigned _ _ _ _ h
-assigned_counts b d (Some x) [] h = h
-assigned_counts b d (Some x) (e ∷ o) h = counts_assigned _ _ _ _ h
+-- an assignment leaves the tally, and the sizes in which a limit lies
+assigned_tally : (x : Pending) (h : ℕ) (e : Open) (b : Builder) → b.tally ≡ (assigned_in x h e b).tally
+assigned_tally (pending.Assignment s p a) h e b = refl
+assigned_tally x h e b = refl
 
-tracks_assigned : {b : Builder} (o : List Open) (l : Layout) (c k v w : ℕ) → Tracks b (draft l o c k v w)
-    → Tracks (assigned_in (newest (listed b.opened)) b) (assigned o (draft l o c k v w))
-tracks_assigned {b} [] l c k v w t =
+counts_assigned : {t : Tally} (x : Pending) (h : ℕ) (e : Open) (o : List Open) (d : Draft) → Counts t d.layout d.count d.locals d.most
+    → let D = assigned_to x h e o d in Counts t D.layout D.count D.locals D.most
+unfolding add_node
+counts_assigned (pending.Assignment s p a) h e o d n =
     record {
-      counts = assigned_counts b (draft l [] c k v w) (newest (listed b.opened)) [] t.counts;
-      fine = t.fine;
-      same = λ m. let h = t.same m in let P : Option Open → Type 0 = λ x. Same (assigned_in x b) l [] k in subst P (sym (show_none h.opened)) h;
+      classes = n.classes;
+      relationships = n.relationships;
+      fields = n.fields;
+      methods = n.methods;
+      nodes = n.nodes;
+      locals = n.locals;
+      most = n.most;
+      in_method = n.in_method;
     }
-tracks_assigned {b} (e ∷ o) l c k v w t =
+counts_assigned x h e o d n = n
+
+fine_assigned_to : (x : Pending) (h : ℕ) (e : Open) (o : List Open) (d : Draft) → Fine d.layout d.opened d.count d.locals d.most → length o + 1 + length d.layout.blocks ≤ d.count
+    → let D = assigned_to x h e o d in Fine D.layout D.opened D.count D.locals D.most
+fine_assigned_to (pending.Assignment s p a) h e o d f few = fine_node s p a (value_of e.pending) _ _ f (omega arith)
+fine_assigned_to x h e o d f few = fine_opened _ _ f (omega arith)
+
+fine_assigned : (o : List Open) (l : Layout) (c k v w : ℕ) → Fine l o c v w → let D = assigned (draft l o c k v w) in Fine D.layout D.opened D.count D.locals D.most
+fine_assigned [] l c k v w f = f
+fine_assigned (e ∷ o) l c k v w f =
+    let few = f.opened in
+    let less = below_less o in
+    fine_assigned_to (top o).pending (top o).height e (below o) (draft l (e ∷ o) c k v w) f (omega arith)
+
+shrink_assigned : (x : Pending) (h : ℕ) (e : Open) (o : List Open) (d : Draft) → let D = assigned_to x h e o d in Small D.layout D.count D.most → Small d.layout d.count d.most
+shrink_assigned (pending.Assignment s p a) h e o d m = shrink_node s p a (value_of e.pending) m (omega arith)
+shrink_assigned x h e o d m = m
+
+same_assigned : {b : Builder} (x : Pending) (h : ℕ) (e : Open) (o : List Open) (d : Draft) → Same b d.layout o d.tallest → length o < 2048
+    → let D = assigned_to x h e o d in Small D.layout D.count D.most → Same (assigned_in x h e b) D.layout D.opened D.tallest
+same_assigned (pending.Assignment s p a) h e o d g few m =
+    same_open (held_as (next_is g) refl) (same_node s p refl refl g (room_node d.layout s p a (value_of e.pending) m)) few
+same_assigned x h e o d g few m = g
+
+tracks_assigned : {b : Builder} (o : List Open) (l : Layout) (c k v w : ℕ) → Tracks b (draft l o c k v w) → Tracks (assigned_at b) (assigned (draft l o c k v w))
+tracks_assigned {b} o l c k v w t =
     let few = t.fine.opened in
     let less = below_less o in
-    let x = top o in
-    let s = target_shape x in
-    let y = target_part x in
+    let lesser = below_less (below o) in
+    let x = top (below o) in
+    let d = draft l o c k v w in
+    let D = assigned d in
     record {
-      counts = assigned_counts b (draft l (e ∷ o) c k v w) (newest (listed b.opened)) (e ∷ o) t.counts;
-      fine = fine_node s x.place y (Some e.node) _ _ t.fine (omega arith);
+      counts = subst (λ y. Counts y D.layout D.count D.locals D.most) (assigned_tally (top_of (closing b)).pending (top_of (closing b)).height (top_of b) (closing (closing b))) (counts_assigned x.pending x.height (top o) (below (below o)) d t.counts);
+      fine = fine_assigned o l c k v w t.fine;
       same =
-          λ m. let q = m.count in
-          let h = t.same (shrink_node s x.place y (Some e.node) m (omega arith)) in
-          let L = add_node s x.place y (Some e.node) l in
-          let O = held (next l) (above (max x.height e.height)) ∷ below o in
-          let P : Option Open → Type 0 = λ z. Same (assigned_in z b) L O k in
-          subst P (sym (show_newest h.opened)) (same_assigning e o h (room_node l s x.place y (Some e.node) m) (omega arith));
+          λ m. let M = shrink_assigned x.pending x.height (top o) (below (below o)) d m in
+          let q = M.count in
+          let g = t.same M in
+          let P : Open → Open → Type 0 = λ y e. Same (assigned_in y.pending y.height e (closing (closing b))) D.layout D.opened D.tallest in
+          subst (λ y. P y (top_of b)) (sym (top_is (below o) (same_close o g)))
+          (subst (P x) (sym (top_is o g))
+          (same_assigned x.pending x.height (top o) (below (below o)) d (same_close (below o) (same_close o g)) (omega arith) m));
     }
 
 settled_counts : (b : Builder) {l : Layout} {c v w : ℕ} (x : Option Open) (g : ℕ) → Counts b.tally l c v w → Counts (settled_at x g b).tally l c v w
@@ -530,19 +538,18 @@ tracks_statement : {b : Builder} {d : Draft} (s : Shape) (p : ℕ) → Tracks b 
 tracks_statement {b} {d} s p t =
     let few = t.fine.opened in
     let less = below_less d.opened in
-    let x = Some (top d.opened).node in
+    let x = value_of (top d.opened).pending in
     tracks_settled (below d.opened) (add_node s p x None d.layout) (d.count + 1) d.tallest d.locals d.most (above (top_of b).height) (above (top d.opened).height)
     (counts_node s p x None t.counts)
     (fine_node s p x None _ _ t.fine (omega arith))
     (λ m. let q = m.count in
     let h = t.same (shrink_node s p x None m (omega arith)) in
     let e = top_is d.opened h in
-    (ap (λ y. above y.height) e, same_counted (same_node s p (ap (λ y. Some y.node) e) refl (same_close d.opened h) (room_node d.layout s p x None m))))
+    (ap (λ y. above y.height) e, same_counted (same_node s p (ap (λ y. value_of y.pending) e) refl (same_close d.opened h) (room_node d.layout s p x None m))))
 
-joined_counts : (b : Builder) {l : Layout} {c v w : ℕ} (x : Option Open) → Counts b.tally l c v w → Counts (joined_in x b).tally l c v w
-joined_counts b None h = h
-joined_counts b (Some x) h =
-    settled_counts (block_added (closing b) x.node x.name) (newest (listed (block_added (closing b) x.node x.name).opened)) (above x.height) h
+joined_counts : (x : Pending) (h : ℕ) (b : Builder) {l : Layout} {c v w : ℕ} → Counts b.tally l c v w → Counts (joined_in x h b).tally l c v w
+joined_counts (pending.Second n p) h b g = settled_counts (block_added b n p) (newest (listed b.opened)) (above h) g
+joined_counts x h b g = g
 
 -- settling leaves the layout and the counts
 settled_right : (P : Layout → ℕ → ℕ → ℕ → Type 0) (o : List Open) (g : ℕ) (l : Layout) (c k v w : ℕ) → P l c v w
@@ -555,31 +562,54 @@ settled_left : (P : Layout → ℕ → ℕ → Type 0) (o : List Open) (g : ℕ)
 settled_left P [] g l c k v w h = h
 settled_left P (x ∷ o) g l c k v w h = h
 
-tracks_joined : {b : Builder} (o : List Open) (l : Layout) (c k v w : ℕ) → Tracks b (draft l o c k v w)
-    → Tracks (joined_in (newest (listed b.opened)) b) (joining o (draft l o c k v w))
-tracks_joined {b} [] l c k v w t =
+counts_joined : {t : Tally} (x : Pending) (h : ℕ) (o : List Open) (d : Draft) → Counts t d.layout d.count d.locals d.most
+    → let D = joining_to x h o d in Counts t D.layout D.count D.locals D.most
+counts_joined {t} (pending.Second n p) h o d g =
+    settled_right (Counts t) o (above h) (add_block n p (next d.layout) d.layout) d.count d.tallest d.locals d.most (counts_block n p (next d.layout) g)
+counts_joined x h o d g = g
+
+fine_settled : (o : List Open) (g : ℕ) (l : Layout) (c k v w : ℕ) → Fine l o c v w
+    → let D = settled_in o g (draft l o c k v w) in Fine D.layout D.opened D.count D.locals D.most
+fine_settled [] g l c k v w f = f
+fine_settled (x ∷ o) g l c k v w f = let few = f.opened in fine_opened _ _ f (omega arith)
+
+fine_joined_to : (x : Pending) (h : ℕ) (o : List Open) (d : Draft) → Fine d.layout d.opened d.count d.locals d.most → length o + 1 + length d.layout.blocks ≤ d.count
+    → let D = joining_to x h o d in Fine D.layout D.opened D.count D.locals D.most
+fine_joined_to (pending.Second n p) h o d f few =
+    fine_settled o (above h) (add_block n p (next d.layout) d.layout) d.count d.tallest d.locals d.most (fine_block n p (next d.layout) o f (omega arith))
+fine_joined_to x h o d f few = fine_opened _ _ f (omega arith)
+
+fine_joined : (o : List Open) (l : Layout) (c k v w : ℕ) → Fine l o c v w → let D = joining (draft l o c k v w) in Fine D.layout D.opened D.count D.locals D.most
+fine_joined [] l c k v w f = f
+fine_joined (x ∷ o) l c k v w f = let few = f.opened in fine_joined_to x.pending x.height o (draft l (x ∷ o) c k v w) f (omega arith)
+
+shrink_joined : (x : Pending) (h : ℕ) (o : List Open) (d : Draft) → let D = joining_to x h o d in Small D.layout D.count D.most → Small d.layout d.count d.most
+shrink_joined (pending.Second n p) h o d m =
+    shrink_block n p (next d.layout) (settled_left Small o (above h) (add_block n p (next d.layout) d.layout) d.count d.tallest d.locals d.most m)
+shrink_joined x h o d m = m
+
+same_joined_to : {b : Builder} (x : Pending) (h : ℕ) (o : List Open) (d : Draft) → Same b d.layout o d.tallest → length o + 1 + length d.layout.blocks ≤ 2048
+    → let D = joining_to x h o d in Same (joined_in x h b) D.layout D.opened D.tallest
+same_joined_to (pending.Second n p) h o d g few = same_settled o d.count d.locals d.most refl (same_block n p g (omega arith)) (omega arith)
+same_joined_to x h o d g few = g
+
+same_joined : {b : Builder} (o : List Open) (l : Layout) (c k v w : ℕ) → Fine l o c v w → c ≤ 2048 → Same b l o k
+    → let D = joining (draft l o c k v w) in Same (joined_at b) D.layout D.opened D.tallest
+same_joined {b} [] l c k v w f q g =
+    let P : Open → Type 0 = λ y. Same (joined_in y.pending y.height (closing b)) l [] k in subst P (sym (top_is [] g)) (same_close [] g)
+same_joined {b} (x ∷ o) l c k v w f q g =
+    let few = f.opened in
+    let D = joining (draft l (x ∷ o) c k v w) in
+    let P : Open → Type 0 = λ y. Same (joined_in y.pending y.height (closing b)) D.layout D.opened D.tallest in
+    subst P (sym (top_is (x ∷ o) g)) (same_joined_to x.pending x.height o (draft l (x ∷ o) c k v w) (same_close (x ∷ o) g) (omega arith))
+
+tracks_joined : {b : Builder} (o : List Open) (l : Layout) (c k v w : ℕ) → Tracks b (draft l o c k v w) → Tracks (joined_at b) (joining (draft l o c k v w))
+tracks_joined {b} o l c k v w t =
+    let d = draft l o c k v w in
     record {
-      counts = joined_counts b (newest (listed b.opened)) t.counts;
-      fine = t.fine;
-      same = λ m. let h = t.same m in let P : Option Open → Type 0 = λ x. Same (joined_in x b) l [] k in subst P (sym (show_none h.opened)) h;
-    }
-tracks_joined {b} (x ∷ o) l c k v w t =
-    let few = t.fine.opened in
-    let L = add_block x.node x.name (next l) l in
-    let B = block_added (closing b) x.node x.name in
-    let h : Tracks (settling B (above x.height)) (settled_in o (above x.height) (draft L o c k v w)) =
-    tracks_settled o L c k v w (above x.height) (above x.height) (counts_block x.node x.name (next l) t.counts)
-    (fine_block x.node x.name (next l) o t.fine (omega arith))
-    (λ m. let q = m.count in (refl, same_block x (same_close (x ∷ o) (t.same (shrink_block x.node x.name (next l) m))) (omega arith)))
-    in
-    record {
-      counts = settled_right (λ y C V W. Counts (joined_in (newest (listed b.opened)) b).tally y C V W) o (above x.height) L c k v w (counts_block x.node x.name (next l) (joined_counts b (newest (listed b.opened)) t.counts));
-      fine = h.fine;
-      same =
-          λ m. let g = t.same (shrink_block x.node x.name (next l) (settled_left (λ y C W. Small y C W) o (above x.height) L c k v w m)) in
-          let D = settled_in o (above x.height) (draft L o c k v w) in
-          let P : Option Open → Type 0 = λ y. Same (joined_in y b) D.layout D.opened D.tallest in
-          subst P (sym (show_newest g.opened)) (h.same m);
+      counts = joined_counts (top_of b).pending (top_of b).height (closing b) (counts_joined (top o).pending (top o).height (below o) d t.counts);
+      fine = fine_joined o l c k v w t.fine;
+      same = λ m. let M = shrink_joined (top o).pending (top o).height (below o) d m in same_joined o l c k v w t.fine M.count (t.same M);
     }
 
 -- The declarations.

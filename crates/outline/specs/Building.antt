@@ -1,17 +1,19 @@
 -- What each event does to the builder.
-use Rattle.std.specs.Prelude.{ℕ, ◌+◌, ◌-◌, max, Bool, true, false, cond, length, Some, None, Option, nat_le}
+use Rattle.std.specs.Prelude.{ℕ, ◌+◌, ◌-◌, max, Bool, true, false, cond, length, Some, None, Option, unwrap_or, nat_le}
 use Rattle.grammar.specs.declared.event.TypeWord.{TypeWord}
 use Rattle.grammar.specs.declared.event.Event.{Event}
 use Rattle.grammar.specs.declared.event.Event.TheVariants as event
 use Rattle.tables.specs.Listed.{listed, pushed, shortened, newest}
 use Rattle.outline.specs.declared.entry.Shape.{Shape}
 use Rattle.outline.specs.declared.entry.Shape.TheVariants as shape
-use Rattle.outline.specs.declared.entry.Open.{Open}
+use Rattle.outline.specs.declared.builder.pending.Pending.{Pending}
+use Rattle.outline.specs.declared.builder.pending.Pending.TheVariants as pending
+use Rattle.outline.specs.declared.builder.pending.Open.{Open}
 use Rattle.outline.specs.declared.contents.Outline.{Outline}
 use Rattle.outline.specs.declared.builder.Tally.{Tally}
 use Rattle.outline.specs.declared.builder.Builder.{Builder}
 use Rattle.outline.specs.Layout.{row_entry, class_row, relationship_row, field_entry, variable_entry, method_entry, node, block}
-use Rattle.outline.specs.Drafts.{held, to_variable, to_member, heighten, parted, target_shape, target_part, above, value_shape, doing_shape, side_shape}
+use Rattle.outline.specs.Drafts.{held, value_of, to_variable, to_member, heighten, in_first, parted, above, value_shape, doing_shape, side_shape}
 
 -- one more, but no further than one above the limit
 abbrev pub raised : ℕ → ℕ → ℕ
@@ -262,12 +264,8 @@ block_added b n o =
 abbrev pub next_node : Builder → ℕ
 next_node b = length (listed b.outline.nodes)
 
-abbrev pub or_nothing : Option Open → Open
-or_nothing None = held 0 0
-or_nothing (Some x) = x
-
 abbrev pub top_of : Builder → Open
-top_of b = or_nothing (newest (listed b.opened))
+top_of b = unwrap_or (newest (listed b.opened)) (held 0 0)
 
 abbrev pub counted : Builder → Builder
 counted b = counting (with_node b.tally) b
@@ -277,11 +275,11 @@ leaf_added b s p = counted (opening (node_added b s p None None) (held (next_nod
 
 abbrev pub unary_added : Builder → Shape → ℕ → Builder
 unary_added b s p =
-    counted (opening (node_added (closing b) s p (Some (top_of b).node) None) (held (next_node b) (above (top_of b).height)))
+    counted (opening (node_added (closing b) s p (value_of (top_of b).pending) None) (held (next_node b) (above (top_of b).height)))
 
 abbrev pub binary_added : Builder → Shape → ℕ → Builder
 binary_added b s p =
-    counted (opening (node_added (closing (closing b)) s p (Some (top_of (closing b)).node) (Some (top_of b).node))
+    counted (opening (node_added (closing (closing b)) s p (value_of (top_of (closing b)).pending) (value_of (top_of b).pending))
     (held (next_node b) (above (max (top_of (closing b)).height (top_of b).height))))
 
 -- the topmost is replaced, if there is one
@@ -298,15 +296,13 @@ variable_targeted b p = counted (opening b (to_variable p))
 abbrev pub member_targeted : Builder → ℕ → ℕ → Builder
 member_targeted b n p = counted (replaced (newest (listed b.opened)) (to_member n p) b)
 
-abbrev pub assigning : Builder → Open → Builder
-assigning b e =
-    opening (node_added (closing (closing b)) (target_shape (top_of (closing b))) (top_of (closing b)).place
-    (target_part (top_of (closing b))) (Some e.node))
-    (held (next_node b) (above (max (top_of (closing b)).height e.height)))
+abbrev pub assigned_in : Pending → ℕ → Open → Builder → Builder
+assigned_in (pending.Assignment s p a) h e b =
+    opening (node_added b s p a (value_of e.pending)) (held (next_node b) (above (max h e.height)))
+assigned_in x h e b = b
 
-abbrev pub assigned_in : Option Open → Builder → Builder
-assigned_in None b = b
-assigned_in (Some e) b = assigning b e
+abbrev pub assigned_at : Builder → Builder
+assigned_at b = assigned_in (top_of (closing b)).pending (top_of (closing b)).height (top_of b) (closing (closing b))
 
 abbrev pub settled_at : Option Open → ℕ → Builder → Builder
 settled_at None h b = counting (with_height h b.tally) b
@@ -316,18 +312,21 @@ abbrev pub settling : Builder → ℕ → Builder
 settling b h = settled_at (newest (listed b.opened)) h b
 
 abbrev pub statement_added : Builder → Shape → ℕ → Builder
-statement_added b s p = settling (counted (node_added (closing b) s p (Some (top_of b).node) None)) (above (top_of b).height)
+statement_added b s p = settling (counted (node_added (closing b) s p (value_of (top_of b).pending) None)) (above (top_of b).height)
 
 abbrev pub branch_added : Builder → ℕ → Builder
 branch_added b p =
-    counted (opening (node_added (closing b) shape.Branch p (Some (top_of b).node) None) (held (next_node b) (top_of b).height))
+    counted (opening (node_added (closing b) shape.Branch p (value_of (top_of b).pending) None) (in_first (next_node b) (top_of b).height))
 
 abbrev pub parting : Builder → Builder
 parting b = replaced (newest (listed b.opened)) (parted (next_node b)) b
 
-abbrev pub joined_in : Option Open → Builder → Builder
-joined_in None b = b
-joined_in (Some x) b = settling (block_added (closing b) x.node x.name) (above x.height)
+abbrev pub joined_in : Pending → ℕ → Builder → Builder
+joined_in (pending.Second n o) h b = settling (block_added b n o) (above h)
+joined_in x h b = b
+
+abbrev pub joined_at : Builder → Builder
+joined_at b = joined_in (top_of b).pending (top_of b).height (closing b)
 
 abbrev pub declared_in : Bool → Builder → TypeWord → ℕ → Builder
 declared_in true b t n = local_added b t n
@@ -350,9 +349,9 @@ built b event.Bracket = bracketed b
 built b (event.Equal p) = binary_added b shape.Equal p
 built b (event.ToVariable p) = variable_targeted b p
 built b (event.ToMember n p) = member_targeted b n p
-built b event.Assigned = assigned_in (newest (listed b.opened)) b
+built b event.Assigned = assigned_at b
 built b (event.Acted p) = statement_added b shape.Action p
 built b (event.Branch p) = branch_added b p
 built b event.Otherwise = parting b
-built b event.Joined = joined_in (newest (listed b.opened)) b
+built b event.Joined = joined_at b
 built b (event.Return p) = statement_added b shape.Return p

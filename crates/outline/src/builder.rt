@@ -1,5 +1,5 @@
 use crate::contents::Outline;
-use crate::entry::Open;
+use pending::Open;
 use tables::table::Table;
 use values::types::CellRow;
 
@@ -31,4 +31,5 @@ pub(crate) mod declaring;
 pub(crate) mod limits;
 pub(crate) mod nodes;
 pub(crate) mod opening;
+pub(crate) mod pending;
 pub(crate) mod taking;

@@ -80,16 +80,3 @@ pub struct Block {
     pub otherwise: usize,
     pub joined: usize,
 }
-
-// What is not complete yet: a value that no node has taken, an assignment whose value is to come (to a member or to a
-// variable, with its name and place), or a branch (with the number of the first node after its first block as `name`,
-// once that is known). `node` is the number of the value's node, of the branch, or of the object to whose member is
-// assigned; `height` its height, no more than one above the limit, and for a branch the greatest height of its parts.
-#[derive(Clone, Copy, PartialEq, Eq, Debug, Default)]
-pub struct Open {
-    pub member: bool,
-    pub node: usize,
-    pub name: usize,
-    pub place: usize,
-    pub height: u8,
-}

@@ -1,9 +1,9 @@
 ghost use Rattle.std.specs.Prelude.{◌≡◌, ◌<◌};
 ghost use Rattle.outline.specs.Building.{raised, counted, opening, closing, top_of, next_node, settling};
-ghost use Rattle.outline.specs.Drafts.{held, above};
+ghost use Rattle.outline.specs.Drafts.{above};
 
 use super::Builder;
-use crate::entry::Open;
+use super::pending::Open;
 
 // The greatest height that is told from greater ones.
 const HEIGHTS: u8 = 17;
@@ -27,21 +27,6 @@ pub(crate) fn raised(limit: u8, n: u8) -> u8
     if n <= limit { n + 1 } else { n }
 }
 
-impl Open {
-    // The value of a node.
-    pub(crate) fn held(node: usize, height: u8) -> Open
-        ensures { result ≡ held node height }
-    {
-        Open {
-            member: false,
-            node,
-            name: 0,
-            place: 0,
-            height,
-        }
-    }
-}
-
 impl Builder {
     // One node more.
     pub(crate) fn count(&mut self)
@@ -63,10 +48,17 @@ impl Builder {
     pub(crate) fn top(&self) -> Open
         ensures { result ≡ top_of self.now }
     {
-        match self.opened.last() {
-            Some(open) => open,
-            None => Open::held(0, 0),
-        }
+        self.opened.last().unwrap_or(Open::held(0, 0))
+    }
+
+    // Takes what was opened last.
+    pub(crate) fn take(&mut self) -> Open
+        ensures top { result ≡ top_of self.old }
+        ensures closed { self.new ≡ closing self.old }
+    {
+        let open = self.top();
+        self.close();
+        open
     }
 
     pub(crate) fn open(&mut self, open: Open)
