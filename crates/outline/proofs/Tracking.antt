@@ -15,8 +15,8 @@ use Rattle.outline.specs.declared.builder.pending.Open.{Open}
 use Rattle.outline.specs.declared.builder.Tally.{Tally}
 use Rattle.outline.specs.declared.builder.Builder.{Builder}
 use Rattle.outline.specs.Layout.{Layout, node, block, class_row, relationship_row, field_entry, variable_entry, method_entry, add_class, add_relationship, add_declared, add_method, add_node, add_block, next}
-use Rattle.outline.specs.Drafts.{Draft, draft, taken, leaf, unary, binary, held, to_variable, to_member, heighten, in_first, parted, value_of, above, top, below, on_top, settled_in, with_opened, assigned_to, assigned, statement, branching, joining_to, joining, declaring, in_layout, value_shape, doing_shape, side_shape}
-use Rattle.outline.specs.Building.{raised, counting, opening, closing, top_of, next_node, last_method, counted, with_node, node_added, block_added, leaf_added, unary_added, binary_added, variable_targeted, assigned_in, assigned_at, settling, statement_added, branch_added, joined_in, joined_at, replaced, class_added, relationship_added, field_added, local_added, method_added, declared_in, with_height, settled_at, built}
+use Rattle.outline.specs.Drafts.{Draft, draft, taken, leaf, unary, binary, held, to_variable, to_member, heighten, in_first, parted, value_of, raised, top, below, on_top, settled_in, with_opened, assigned_to, assigned, statement, branching, joining_to, joining, declaring, in_layout, value_shape, doing_shape, side_shape}
+use Rattle.outline.specs.Building.{counting, opening, closing, top_of, next_node, last_method, counted, with_node, node_added, block_added, leaf_added, unary_added, binary_added, variable_targeted, assigned_in, assigned_at, settling, statement_added, branch_added, joined_in, joined_at, replaced, class_added, relationship_added, field_added, local_added, method_added, declared_in, with_height, settled_at, built}
 use Rattle.outline.proofs.Shown.{Shows, show_length, show_push, show_drop, show_drop_none, show_newest, show_none}
 
 -- the tables hold the layout, and what is open is o
@@ -32,15 +32,15 @@ pub record Same (b : Builder) (l : Layout) (o : List Open) (k : ℕ) : Type 0 wh
   pub owner : b.tally.owner ≡ l.owner
   pub tallest : b.tally.tallest ≡ k
 
--- the counts, each no further than one above its limit
+-- the counts, each as far as its bits tell
 pub record Counts (t : Tally) (l : Layout) (c v w : ℕ) : Type 0 where
-  pub classes : t.classes ≡ min (length l.classes) 32
-  pub relationships : t.relationships ≡ min (length l.relationships) 32
-  pub fields : t.fields ≡ min (length l.fields) 129
-  pub methods : t.methods ≡ min (length l.methods) 65
-  pub nodes : t.nodes ≡ min c 2049
-  pub locals : t.locals ≡ min v 13
-  pub most : t.most ≡ min w 13
+  pub classes : t.classes ≡ min (length l.classes) 255
+  pub relationships : t.relationships ≡ min (length l.relationships) 255
+  pub fields : t.fields ≡ min (length l.fields) 255
+  pub methods : t.methods ≡ min (length l.methods) 255
+  pub nodes : t.nodes ≡ min c 65535
+  pub locals : t.locals ≡ min v 255
+  pub most : t.most ≡ min w 255
   pub in_method : t.in_method ≡ l.in_method
 
 -- no limit on the tables is passed
@@ -65,8 +65,8 @@ pub record Tracks (b : Builder) (d : Draft) : Type 0 where
   pub fine : Fine d.layout d.opened d.count d.locals d.most
   pub same : Small d.layout d.count d.most → Same b d.layout d.opened d.tallest
 
-raise : (limit n c : ℕ) → n ≡ min c (limit + 1) → raised limit n ≡ min (c + 1) (limit + 1)
-raise limit n c e = grind (arith, nat_tests)
+raise : (n c : ℕ) → n ≡ min c 255 → raised n ≡ min (c + 1) 255
+raise n c e = omega arith
 
 more_length : (n limit : ℕ) → min (n + 1) limit ≡ min (suc n) limit
 more_length n limit = omega arith
@@ -231,10 +231,10 @@ same_leaf : {b : Builder} {l : Layout} {o : List Open} {k : ℕ} (s : Shape) (p 
 same_leaf s p h r q = same_counted (same_open (held_as (next_is h) refl) (same_node s p refl refl h r) q)
 
 same_unary : {b : Builder} {l : Layout} (o : List Open) {k : ℕ} (s : Shape) (p : ℕ) → Same b l o k → length l.nodes < 2048 → length (below o) < 2048
-    → Same (unary_added b s p) (add_node s p (value_of (top o).pending) None l) (held (next l) (above (top o).height) ∷ below o) k
+    → Same (unary_added b s p) (add_node s p (value_of (top o).pending) None l) (held (next l) (raised (top o).height) ∷ below o) k
 same_unary o s p h r q =
     let e = top_is o h in
-    same_counted (same_open (held_as (next_is h) (ap (λ x. above x.height) e)) (same_node s p (ap (λ x. value_of x.pending) e) refl (same_close o h) r) q)
+    same_counted (same_open (held_as (next_is h) (ap (λ x. raised x.height) e)) (same_node s p (ap (λ x. value_of x.pending) e) refl (same_close o h) r) q)
 
 same_branch : {b : Builder} {l : Layout} (o : List Open) {k : ℕ} (p : ℕ) → Same b l o k → length l.nodes < 2048 → length (below o) < 2048
     → Same (branch_added b p) (add_node shape.Branch p (value_of (top o).pending) None l) (in_first (next l) (top o).height ∷ below o) k
@@ -242,12 +242,12 @@ same_branch o p h r q =
     let e = top_is o h in
     same_counted (same_open (first_as (next_is h) (ap (λ x. x.height) e)) (same_node shape.Branch p (ap (λ x. value_of x.pending) e) refl (same_close o h) r) q)
 
-higher : {x y x' y' : Open} → x ≡ x' → y ≡ y' → above (max x.height y.height) ≡ above (max x'.height y'.height)
-higher {x} {y} {x'} {y'} e f = ap (λ z. above (max z.height y.height)) e ∙ ap (λ z. above (max x'.height z.height)) f
+higher : {x y x' y' : Open} → x ≡ x' → y ≡ y' → raised (max x.height y.height) ≡ raised (max x'.height y'.height)
+higher {x} {y} {x'} {y'} e f = ap (λ z. raised (max z.height y.height)) e ∙ ap (λ z. raised (max x'.height z.height)) f
 
 same_binary : {b : Builder} {l : Layout} (o : List Open) {k : ℕ} (s : Shape) (p : ℕ) → Same b l o k → length l.nodes < 2048 → length (below (below o)) < 2048
     → Same (binary_added b s p) (add_node s p (value_of (top (below o)).pending) (value_of (top o).pending) l)
-    (held (next l) (above (max (top (below o)).height (top o).height)) ∷ below (below o)) k
+    (held (next l) (raised (max (top (below o)).height (top o).height)) ∷ below (below o)) k
 same_binary o s p h r q =
     let e = top_is o h in
     let f = top_is (below o) (same_close o h) in
@@ -263,7 +263,7 @@ counts_node {t} {l} {c} s p x y h =
       relationships = h.relationships;
       fields = h.fields;
       methods = h.methods;
-      nodes = raise 2048 t.nodes c h.nodes;
+      nodes = omega (arith, h.nodes);
       locals = h.locals;
       most = h.most;
       in_method = h.in_method;
@@ -276,7 +276,7 @@ counts_more {t} {l} {c} h =
       relationships = h.relationships;
       fields = h.fields;
       methods = h.methods;
-      nodes = raise 2048 t.nodes c h.nodes;
+      nodes = omega (arith, h.nodes);
       locals = h.locals;
       most = h.most;
       in_method = h.in_method;
@@ -539,16 +539,16 @@ tracks_statement {b} {d} s p t =
     let few = t.fine.opened in
     let less = below_less d.opened in
     let x = value_of (top d.opened).pending in
-    tracks_settled (below d.opened) (add_node s p x None d.layout) (d.count + 1) d.tallest d.locals d.most (above (top_of b).height) (above (top d.opened).height)
+    tracks_settled (below d.opened) (add_node s p x None d.layout) (d.count + 1) d.tallest d.locals d.most (raised (top_of b).height) (raised (top d.opened).height)
     (counts_node s p x None t.counts)
     (fine_node s p x None _ _ t.fine (omega arith))
     (λ m. let q = m.count in
     let h = t.same (shrink_node s p x None m (omega arith)) in
     let e = top_is d.opened h in
-    (ap (λ y. above y.height) e, same_counted (same_node s p (ap (λ y. value_of y.pending) e) refl (same_close d.opened h) (room_node d.layout s p x None m))))
+    (ap (λ y. raised y.height) e, same_counted (same_node s p (ap (λ y. value_of y.pending) e) refl (same_close d.opened h) (room_node d.layout s p x None m))))
 
 joined_counts : (x : Pending) (h : ℕ) (b : Builder) {l : Layout} {c v w : ℕ} → Counts b.tally l c v w → Counts (joined_in x h b).tally l c v w
-joined_counts (pending.Second n p) h b g = settled_counts (block_added b n p) (newest (listed b.opened)) (above h) g
+joined_counts (pending.Second n p) h b g = settled_counts (block_added b n p) (newest (listed b.opened)) (raised h) g
 joined_counts x h b g = g
 
 -- settling leaves the layout and the counts
@@ -565,7 +565,7 @@ settled_left P (x ∷ o) g l c k v w h = h
 counts_joined : {t : Tally} (x : Pending) (h : ℕ) (o : List Open) (d : Draft) → Counts t d.layout d.count d.locals d.most
     → let D = joining_to x h o d in Counts t D.layout D.count D.locals D.most
 counts_joined {t} (pending.Second n p) h o d g =
-    settled_right (Counts t) o (above h) (add_block n p (next d.layout) d.layout) d.count d.tallest d.locals d.most (counts_block n p (next d.layout) g)
+    settled_right (Counts t) o (raised h) (add_block n p (next d.layout) d.layout) d.count d.tallest d.locals d.most (counts_block n p (next d.layout) g)
 counts_joined x h o d g = g
 
 fine_settled : (o : List Open) (g : ℕ) (l : Layout) (c k v w : ℕ) → Fine l o c v w
@@ -576,7 +576,7 @@ fine_settled (x ∷ o) g l c k v w f = let few = f.opened in fine_opened _ _ f (
 fine_joined_to : (x : Pending) (h : ℕ) (o : List Open) (d : Draft) → Fine d.layout d.opened d.count d.locals d.most → length o + 1 + length d.layout.blocks ≤ d.count
     → let D = joining_to x h o d in Fine D.layout D.opened D.count D.locals D.most
 fine_joined_to (pending.Second n p) h o d f few =
-    fine_settled o (above h) (add_block n p (next d.layout) d.layout) d.count d.tallest d.locals d.most (fine_block n p (next d.layout) o f (omega arith))
+    fine_settled o (raised h) (add_block n p (next d.layout) d.layout) d.count d.tallest d.locals d.most (fine_block n p (next d.layout) o f (omega arith))
 fine_joined_to x h o d f few = fine_opened _ _ f (omega arith)
 
 fine_joined : (o : List Open) (l : Layout) (c k v w : ℕ) → Fine l o c v w → let D = joining (draft l o c k v w) in Fine D.layout D.opened D.count D.locals D.most
@@ -585,7 +585,7 @@ fine_joined (x ∷ o) l c k v w f = let few = f.opened in fine_joined_to x.pendi
 
 shrink_joined : (x : Pending) (h : ℕ) (o : List Open) (d : Draft) → let D = joining_to x h o d in Small D.layout D.count D.most → Small d.layout d.count d.most
 shrink_joined (pending.Second n p) h o d m =
-    shrink_block n p (next d.layout) (settled_left Small o (above h) (add_block n p (next d.layout) d.layout) d.count d.tallest d.locals d.most m)
+    shrink_block n p (next d.layout) (settled_left Small o (raised h) (add_block n p (next d.layout) d.layout) d.count d.tallest d.locals d.most m)
 shrink_joined x h o d m = m
 
 same_joined_to : {b : Builder} (x : Pending) (h : ℕ) (o : List Open) (d : Draft) → Same b d.layout o d.tallest → length o + 1 + length d.layout.blocks ≤ 2048
@@ -621,7 +621,7 @@ tracks_class {b} {d} n p t =
     record {
       counts =
           record {
-            classes = raise 31 b.tally.classes (length d.layout.classes) c.classes ∙ more_length _ _;
+            classes = raise b.tally.classes (length d.layout.classes) c.classes ∙ more_length _ _;
             relationships = c.relationships;
             fields = c.fields;
             methods = c.methods;
@@ -644,8 +644,8 @@ tracks_class {b} {d} n p t =
             blocks = h.blocks;
             opened = h.opened;
             owner =
-                let e : raised 31 b.tally.classes ≡ suc (length d.layout.classes) =
-                raise 31 b.tally.classes (length d.layout.classes) c.classes ∙ within_limit 32 _ (omega arith)
+                let e : raised b.tally.classes ≡ suc (length d.layout.classes) =
+                raise b.tally.classes (length d.layout.classes) c.classes ∙ within_limit 255 _ (omega arith)
                 in
                 ap class_row e;
             tallest = h.tallest;
@@ -660,7 +660,7 @@ tracks_relationship {b} {d} n p x y t =
       counts =
           record {
             classes = c.classes;
-            relationships = raise 31 b.tally.relationships (length d.layout.relationships) c.relationships ∙ more_length _ _;
+            relationships = raise b.tally.relationships (length d.layout.relationships) c.relationships ∙ more_length _ _;
             fields = c.fields;
             methods = c.methods;
             nodes = c.nodes;
@@ -682,8 +682,8 @@ tracks_relationship {b} {d} n p x y t =
             blocks = h.blocks;
             opened = h.opened;
             owner =
-                let e : raised 31 b.tally.relationships ≡ suc (length d.layout.relationships) =
-                raise 31 b.tally.relationships (length d.layout.relationships) c.relationships ∙ within_limit 32 _ (omega arith)
+                let e : raised b.tally.relationships ≡ suc (length d.layout.relationships) =
+                raise b.tally.relationships (length d.layout.relationships) c.relationships ∙ within_limit 255 _ (omega arith)
                 in
                 ap relationship_row e;
             tallest = h.tallest;
@@ -702,7 +702,7 @@ tracks_method {b} {d} r n u p t =
             classes = c.classes;
             relationships = c.relationships;
             fields = c.fields;
-            methods = raise 64 b.tally.methods (length d.layout.methods) c.methods ∙ more_length _ _;
+            methods = raise b.tally.methods (length d.layout.methods) c.methods ∙ more_length _ _;
             nodes = c.nodes;
             locals = refl;
             most = omega (arith, c.most);
@@ -750,11 +750,11 @@ tracks_field {b} {l} {o} {c} {k} {v} {w} u n e t =
           record {
             classes = x.classes;
             relationships = x.relationships;
-            fields = raise 128 b.tally.fields (length l.fields) x.fields ∙ more_length _ _ ∙ ap (λ y. min (length y) 129) (sym fs);
+            fields = raise b.tally.fields (length l.fields) x.fields ∙ more_length _ _ ∙ ap (λ y. min (length y) 255) (sym fs);
             methods = x.methods;
             nodes = x.nodes;
-            locals = x.locals ∙ ap (λ y. min y 13) (sym ls);
-            most = x.most ∙ ap (λ y. min y 13) (sym ms);
+            locals = x.locals ∙ ap (λ y. min y 255) (sym ls);
+            most = x.most ∙ ap (λ y. min y 255) (sym ms);
             in_method = x.in_method;
           };
       fine =
@@ -795,16 +795,16 @@ tracks_local {b} {l} {o} {c} {k} {v} {w} u n e t =
     let ls : cond l.in_method (v + 1) v ≡ v + 1 = ap (λ i. cond i (v + 1) v) e in
     let ms : cond l.in_method (max w (v + 1)) w ≡ max w (v + 1) = ap (λ i. cond i (max w (v + 1)) w) e in
     let a = ap length vs in
-    let r = raise 12 b.tally.locals v x.locals in
+    let r = raise b.tally.locals v x.locals in
     record {
       counts =
           record {
             classes = x.classes;
             relationships = x.relationships;
-            fields = x.fields ∙ ap (λ y. min (length y) 129) (sym fs);
+            fields = x.fields ∙ ap (λ y. min (length y) 255) (sym fs);
             methods = x.methods;
             nodes = x.nodes;
-            locals = r ∙ ap (λ y. min y 13) (sym ls);
+            locals = r ∙ ap (λ y. min y 255) (sym ls);
             most = omega (arith, x.most, r, ms);
             in_method = x.in_method;
           };
@@ -855,7 +855,7 @@ tracks_event (event.Member n p) t = tracks_unary (shape.Member n) p t
 tracks_event (event.Call n p) t = tracks_binary (shape.Call n) p t
 tracks_event (event.Instances n p) t = tracks_unary (shape.Instances n) p t
 tracks_event (event.End e p) t = tracks_unary (side_shape e) p t
-tracks_event event.Bracket t = tracks_replaced (λ x. heighten (above x.height) x) (λ x. heighten (above x.height) x) t (λ m x. refl)
+tracks_event event.Bracket t = tracks_replaced (λ x. heighten (raised x.height) x) (λ x. heighten (raised x.height) x) t (λ m x. refl)
 tracks_event (event.Equal p) t = tracks_binary shape.Equal p t
 tracks_event (event.ToVariable p) t = tracks_to_variable p t
 tracks_event (event.ToMember n p) t = tracks_more (tracks_replaced (to_member n p) (to_member n p) t (λ m x. refl))

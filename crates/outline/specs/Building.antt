@@ -1,8 +1,9 @@
 -- What each event does to the builder.
-use Rattle.std.specs.Prelude.{ℕ, ◌+◌, ◌-◌, max, Bool, true, false, cond, length, Some, None, Option, unwrap_or, nat_le}
+use Rattle.std.specs.Prelude.{ℕ, ◌+◌, ◌-◌, min, max, Bool, true, false, cond, length, Some, None, Option, unwrap_or, nat_le}
 use Rattle.grammar.specs.declared.event.TypeWord.{TypeWord}
 use Rattle.grammar.specs.declared.event.Event.{Event}
 use Rattle.grammar.specs.declared.event.Event.TheVariants as event
+use Rattle.values.specs.declared.types.Lineage.{Lineage}
 use Rattle.tables.specs.Listed.{listed, pushed, shortened, newest}
 use Rattle.outline.specs.declared.entry.Shape.{Shape}
 use Rattle.outline.specs.declared.entry.Shape.TheVariants as shape
@@ -13,11 +14,7 @@ use Rattle.outline.specs.declared.contents.Outline.{Outline}
 use Rattle.outline.specs.declared.builder.Tally.{Tally}
 use Rattle.outline.specs.declared.builder.Builder.{Builder}
 use Rattle.outline.specs.Layout.{row_entry, class_row, relationship_row, field_entry, variable_entry, method_entry, node, block}
-use Rattle.outline.specs.Drafts.{held, value_of, to_variable, to_member, heighten, in_first, parted, above, value_shape, doing_shape, side_shape}
-
--- one more, but no further than one above the limit
-abbrev pub raised : ℕ → ℕ → ℕ
-raised limit n = cond (nat_le n limit) (n + 1) n
+use Rattle.outline.specs.Drafts.{held, value_of, to_variable, to_member, heighten, in_first, parted, raised, value_shape, doing_shape, side_shape}
 
 abbrev pub building : Outline → Builder → Builder
 building o b = record { outline = o; opened = b.opened; tally = b.tally }
@@ -31,10 +28,10 @@ opening b x = record { outline = b.outline; opened = pushed b.opened x; tally = 
 abbrev pub closing : Builder → Builder
 closing b = record { outline = b.outline; opened = shortened b.opened; tally = b.tally }
 
-abbrev pub in_class : Tally → Tally
-in_class t =
+abbrev pub in_row : Lineage → ℕ → Tally → Tally
+in_row l n t =
     record {
-      classes = raised 31 t.classes;
+      classes = t.classes;
       relationships = t.relationships;
       fields = t.fields;
       methods = t.methods;
@@ -42,7 +39,22 @@ in_class t =
       most = t.most;
       nodes = t.nodes;
       tallest = t.tallest;
-      owner = class_row (raised 31 t.classes);
+      owner = record { lineage = l; number = n };
+      in_method = false;
+    }
+
+abbrev pub in_class : Tally → Tally
+in_class t =
+    record {
+      classes = raised t.classes;
+      relationships = t.relationships;
+      fields = t.fields;
+      methods = t.methods;
+      locals = t.locals;
+      most = t.most;
+      nodes = t.nodes;
+      tallest = t.tallest;
+      owner = class_row (raised t.classes);
       in_method = false;
     }
 
@@ -50,14 +62,14 @@ abbrev pub in_relationship : Tally → Tally
 in_relationship t =
     record {
       classes = t.classes;
-      relationships = raised 31 t.relationships;
+      relationships = raised t.relationships;
       fields = t.fields;
       methods = t.methods;
       locals = t.locals;
       most = t.most;
       nodes = t.nodes;
       tallest = t.tallest;
-      owner = relationship_row (raised 31 t.relationships);
+      owner = relationship_row (raised t.relationships);
       in_method = false;
     }
 
@@ -66,7 +78,7 @@ with_field t =
     record {
       classes = t.classes;
       relationships = t.relationships;
-      fields = raised 128 t.fields;
+      fields = raised t.fields;
       methods = t.methods;
       locals = t.locals;
       most = t.most;
@@ -83,8 +95,8 @@ with_local t =
       relationships = t.relationships;
       fields = t.fields;
       methods = t.methods;
-      locals = raised 12 t.locals;
-      most = max t.most (raised 12 t.locals);
+      locals = raised t.locals;
+      most = max t.most (raised t.locals);
       nodes = t.nodes;
       tallest = t.tallest;
       owner = t.owner;
@@ -97,7 +109,7 @@ with_method t =
       classes = t.classes;
       relationships = t.relationships;
       fields = t.fields;
-      methods = raised 64 t.methods;
+      methods = raised t.methods;
       locals = 2;
       most = max t.most 2;
       nodes = t.nodes;
@@ -115,7 +127,7 @@ with_node t =
       methods = t.methods;
       locals = t.locals;
       most = t.most;
-      nodes = raised 2048 t.nodes;
+      nodes = min (t.nodes + 1) 65535;
       tallest = t.tallest;
       owner = t.owner;
       in_method = t.in_method;
@@ -135,6 +147,9 @@ with_height h t =
       owner = t.owner;
       in_method = t.in_method;
     }
+
+abbrev pub begun : Builder → Lineage → ℕ → Builder
+begun b l n = counting (in_row l n b.tally) b
 
 abbrev pub class_added : Builder → ℕ → ℕ → Builder
 class_added b n p =
@@ -275,12 +290,12 @@ leaf_added b s p = counted (opening (node_added b s p None None) (held (next_nod
 
 abbrev pub unary_added : Builder → Shape → ℕ → Builder
 unary_added b s p =
-    counted (opening (node_added (closing b) s p (value_of (top_of b).pending) None) (held (next_node b) (above (top_of b).height)))
+    counted (opening (node_added (closing b) s p (value_of (top_of b).pending) None) (held (next_node b) (raised (top_of b).height)))
 
 abbrev pub binary_added : Builder → Shape → ℕ → Builder
 binary_added b s p =
     counted (opening (node_added (closing (closing b)) s p (value_of (top_of (closing b)).pending) (value_of (top_of b).pending))
-    (held (next_node b) (above (max (top_of (closing b)).height (top_of b).height))))
+    (held (next_node b) (raised (max (top_of (closing b)).height (top_of b).height))))
 
 -- the topmost is replaced, if there is one
 abbrev pub replaced : Option Open → (Open → Open) → Builder → Builder
@@ -288,7 +303,7 @@ replaced None f b = b
 replaced (Some x) f b = opening (closing b) (f x)
 
 abbrev pub bracketed : Builder → Builder
-bracketed b = replaced (newest (listed b.opened)) (λ x. heighten (above x.height) x) b
+bracketed b = replaced (newest (listed b.opened)) (λ x. heighten (raised x.height) x) b
 
 abbrev pub variable_targeted : Builder → ℕ → Builder
 variable_targeted b p = counted (opening b (to_variable p))
@@ -298,7 +313,7 @@ member_targeted b n p = counted (replaced (newest (listed b.opened)) (to_member 
 
 abbrev pub assigned_in : Pending → ℕ → Open → Builder → Builder
 assigned_in (pending.Assignment s p a) h e b =
-    opening (node_added b s p a (value_of e.pending)) (held (next_node b) (above (max h e.height)))
+    opening (node_added b s p a (value_of e.pending)) (held (next_node b) (raised (max h e.height)))
 assigned_in x h e b = b
 
 abbrev pub assigned_at : Builder → Builder
@@ -312,7 +327,7 @@ abbrev pub settling : Builder → ℕ → Builder
 settling b h = settled_at (newest (listed b.opened)) h b
 
 abbrev pub statement_added : Builder → Shape → ℕ → Builder
-statement_added b s p = settling (counted (node_added (closing b) s p (value_of (top_of b).pending) None)) (above (top_of b).height)
+statement_added b s p = settling (counted (node_added (closing b) s p (value_of (top_of b).pending) None)) (raised (top_of b).height)
 
 abbrev pub branch_added : Builder → ℕ → Builder
 branch_added b p =
@@ -322,7 +337,7 @@ abbrev pub parting : Builder → Builder
 parting b = replaced (newest (listed b.opened)) (parted (next_node b)) b
 
 abbrev pub joined_in : Pending → ℕ → Builder → Builder
-joined_in (pending.Second n o) h b = settling (block_added b n o) (above h)
+joined_in (pending.Second n o) h b = settling (block_added b n o) (raised h)
 joined_in x h b = b
 
 abbrev pub joined_at : Builder → Builder

@@ -18,7 +18,7 @@ use Rattle.outline.specs.Layout.{Layout, add_class, add_relationship, add_declar
 
 -- The tables; what is not complete yet, newest first; how many nodes there are, an assignment counted from its place on;
 -- the greatest height of a statement that stands in no branch that is still open; the variables of the method at hand,
--- and the most of a method. Heights end at 17.
+-- and the most of a method. Heights end at 255.
 pub record Draft : Type 0 where
   pub layout : Layout
   pub opened : List Open
@@ -30,9 +30,9 @@ pub record Draft : Type 0 where
 abbrev pub draft : Layout → List Open → ℕ → ℕ → ℕ → ℕ → Draft
 draft l o c k v w = record { layout = l; opened = o; count = c; tallest = k; locals = v; most = w }
 
--- one above, as far as heights go
-abbrev pub above : ℕ → ℕ
-above h = min (h + 1) 17
+-- one more, as far as eight bits tell
+abbrev pub raised : ℕ → ℕ
+raised h = min (h + 1) 255
 
 -- the value of a node
 abbrev pub held : ℕ → ℕ → Open
@@ -84,14 +84,14 @@ leaf s p d = draft (add_node s p None None d.layout) (held (next d.layout) 1 ∷
 -- a node with one part
 abbrev pub unary : Shape → ℕ → Draft → Draft
 unary s p d =
-    draft (add_node s p (value_of (top d.opened).pending) None d.layout) (held (next d.layout) (above (top d.opened).height) ∷ below d.opened) (d.count + 1)
+    draft (add_node s p (value_of (top d.opened).pending) None d.layout) (held (next d.layout) (raised (top d.opened).height) ∷ below d.opened) (d.count + 1)
     d.tallest d.locals d.most
 
 -- a node with two parts
 abbrev pub binary : Shape → ℕ → Draft → Draft
 binary s p d =
     draft (add_node s p (value_of (top (below d.opened)).pending) (value_of (top d.opened).pending) d.layout)
-    (held (next d.layout) (above (max (top (below d.opened)).height (top d.opened).height)) ∷ below (below d.opened)) (d.count + 1)
+    (held (next d.layout) (raised (max (top (below d.opened)).height (top d.opened).height)) ∷ below (below d.opened)) (d.count + 1)
     d.tallest d.locals d.most
 
 abbrev pub with_opened : List Open → ℕ → Draft → Draft
@@ -100,7 +100,7 @@ with_opened o c d = draft d.layout o c d.tallest d.locals d.most
 -- the value e of an assignment to a target of height h is complete
 abbrev pub assigned_to : Pending → ℕ → Open → List Open → Draft → Draft
 assigned_to (pending.Assignment s p a) h e o d =
-    draft (add_node s p a (value_of e.pending) d.layout) (held (next d.layout) (above (max h e.height)) ∷ o) d.count d.tallest d.locals d.most
+    draft (add_node s p a (value_of e.pending) d.layout) (held (next d.layout) (raised (max h e.height)) ∷ o) d.count d.tallest d.locals d.most
 assigned_to x h e o d = with_opened o d.count d
 
 abbrev pub assigned : Draft → Draft
@@ -115,7 +115,7 @@ settled_in (x ∷ o) h d = with_opened (heighten (max x.height h) x ∷ o) d.cou
 -- a node that is a statement, its expression complete
 abbrev pub statement : Shape → ℕ → Draft → Draft
 statement s p d =
-    settled_in (below d.opened) (above (top d.opened).height)
+    settled_in (below d.opened) (raised (top d.opened).height)
     (draft (add_node s p (value_of (top d.opened).pending) None d.layout) (below d.opened) (d.count + 1) d.tallest d.locals d.most)
 
 -- a branch, its condition complete
@@ -127,7 +127,7 @@ branching p d =
 -- the second block of a branch is complete
 abbrev pub joining_to : Pending → ℕ → List Open → Draft → Draft
 joining_to (pending.Second b n) h o d =
-    settled_in o (above h) (draft (add_block b n (next d.layout) d.layout) o d.count d.tallest d.locals d.most)
+    settled_in o (raised h) (draft (add_block b n (next d.layout) d.layout) o d.count d.tallest d.locals d.most)
 joining_to x h o d = with_opened o d.count d
 
 abbrev pub joining : Draft → Draft
@@ -169,7 +169,7 @@ taken d (event.Member n p) = unary (shape.Member n) p d
 taken d (event.Call n p) = binary (shape.Call n) p d
 taken d (event.Instances n p) = unary (shape.Instances n) p d
 taken d (event.End e p) = unary (side_shape e) p d
-taken d event.Bracket = with_opened (on_top (λ x. heighten (above x.height) x) d.opened) d.count d
+taken d event.Bracket = with_opened (on_top (λ x. heighten (raised x.height) x) d.opened) d.count d
 taken d (event.Equal p) = binary shape.Equal p d
 taken d (event.ToVariable p) = with_opened (to_variable p ∷ d.opened) (d.count + 1) d
 taken d (event.ToMember n p) = with_opened (on_top (to_member n p) d.opened) (d.count + 1) d

@@ -3,9 +3,9 @@ use pending::Open;
 use tables::table::Table;
 use values::types::CellRow;
 
-// Counts of what was read, each no further than one above its limit; the row that was declared last; whether one of its
+// Counts of what was read, each as far as its type goes, which is past its limit; the row that was declared last; whether one of its
 // methods is being read; and the greatest height of a statement that stands in no open branch.
-#[derive(Clone, Copy)]
+#[derive(Clone, Copy, Default)]
 pub(crate) struct Tally {
     pub(crate) classes: u8,
     pub(crate) relationships: u8,

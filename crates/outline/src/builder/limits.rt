@@ -5,7 +5,6 @@ use super::{Builder, Tally};
 use crate::contents::Outline;
 use crate::limit::Limit;
 use tables::table::Table;
-use values::types::CellRow;
 
 impl Builder {
     // Before the first event.
@@ -23,18 +22,7 @@ impl Builder {
                 blocks: Table::new(),
             },
             opened: Table::new(),
-            tally: Tally {
-                classes: 0,
-                relationships: 0,
-                fields: 0,
-                methods: 0,
-                locals: 0,
-                most: 0,
-                nodes: 0,
-                tallest: 0,
-                owner: CellRow::default(),
-                in_method: false,
-            },
+            tally: Tally::default(),
         }
     }
 
@@ -66,11 +54,7 @@ impl Builder {
     pub(crate) fn into_outline(self) -> Outline
         ensures { result ≡ self.outline }
     {
-        let Builder {
-            outline,
-            opened: _,
-            tally: _,
-        } = self;
+        let Builder { outline, .. } = self;
         outline
     }
 }

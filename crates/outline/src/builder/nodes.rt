@@ -2,7 +2,6 @@ ghost use Rattle.std.specs.Prelude.{◌≡◌};
 ghost use Rattle.outline.specs.Building.{node_added, block_added, leaf_added, unary_added, binary_added, bracketed, variable_targeted, member_targeted, assigned_at, statement_added, branch_added, parting, joined_at};
 
 use super::Builder;
-use super::opening::above;
 use super::pending::{Open, Pending};
 use crate::entry::{Block, Node, Shape};
 
@@ -37,7 +36,7 @@ impl Builder {
         let node = self.next_node();
         let part = self.take();
         self.node(shape, place, part.node(), None);
-        self.open(Open::held(node, above(part.height)));
+        self.open(Open::held(node, part.height.saturating_add(1)));
         self.count();
     }
 
@@ -49,7 +48,7 @@ impl Builder {
         let right = self.take();
         let left = self.take();
         self.node(shape, place, left.node(), right.node());
-        self.open(Open::held(node, above(left.height.max(right.height))));
+        self.open(Open::held(node, left.height.max(right.height).saturating_add(1)));
         self.count();
     }
 
@@ -58,7 +57,7 @@ impl Builder {
         ensures { self.new ≡ bracketed self.old }
     {
         if let Some(mut part) = self.opened.last() {
-            part.height = above(part.height);
+            part.height = part.height.saturating_add(1);
             self.replace(part);
         }
     }
@@ -95,7 +94,7 @@ impl Builder {
         } = target.pending
         {
             self.node(shape, place, object, value.node());
-            self.open(Open::held(node, above(target.height.max(value.height))));
+            self.open(Open::held(node, target.height.max(value.height).saturating_add(1)));
         }
     }
 
@@ -106,7 +105,7 @@ impl Builder {
         let part = self.take();
         self.node(shape, place, part.node(), None);
         self.count();
-        self.settle(above(part.height));
+        self.settle(part.height.saturating_add(1));
     }
 
     // A branch, its condition complete.
@@ -148,7 +147,7 @@ impl Builder {
         let Open { pending, height } = self.take();
         if let Pending::Second { branch, otherwise } = pending {
             self.block(branch, otherwise);
-            self.settle(above(height));
+            self.settle(height.saturating_add(1));
         }
     }
 }

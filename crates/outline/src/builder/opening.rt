@@ -1,40 +1,15 @@
-ghost use Rattle.std.specs.Prelude.{◌≡◌, ◌<◌};
-ghost use Rattle.outline.specs.Building.{raised, counted, opening, closing, top_of, next_node, settling};
-ghost use Rattle.outline.specs.Drafts.{above};
+ghost use Rattle.std.specs.Prelude.{◌≡◌};
+ghost use Rattle.outline.specs.Building.{counted, opening, closing, top_of, next_node, settling};
 
 use super::Builder;
 use super::pending::Open;
-
-// The greatest height that is told from greater ones.
-const HEIGHTS: u8 = 17;
-
-// One above, as far as heights are told.
-pub(crate) fn above(height: u8) -> u8
-    ensures { result ≡ above height }
-{
-    if height < HEIGHTS {
-        height + 1
-    } else {
-        HEIGHTS
-    }
-}
-
-// One more, but no further than one above the limit.
-pub(crate) fn raised(limit: u8, n: u8) -> u8
-    requires { limit < 255 }
-    ensures { result ≡ raised limit n }
-{
-    if n <= limit { n + 1 } else { n }
-}
 
 impl Builder {
     // One node more.
     pub(crate) fn count(&mut self)
         ensures { self.new ≡ counted self.old }
     {
-        if self.tally.nodes <= 2048 {
-            self.tally.nodes += 1;
-        }
+        self.tally.nodes = self.tally.nodes.saturating_add(1);
     }
 
     // How many nodes there are, which is the number of the next.

@@ -25,8 +25,8 @@ pub(crate) enum Pending {
     },
 }
 
-// What is not complete yet, with its height, no more than one above the limit: of a branch, the greatest height of its
-// parts.
+// What is not complete yet, with its height as far as its type goes, which is past the limit: of a branch, the greatest
+// height of its parts.
 #[derive(Clone, Copy)]
 pub(crate) struct Open {
     pub(crate) pending: Pending,
