@@ -1,6 +1,5 @@
 -- The builder follows the draft, as long as no limit is passed.
 use Rattle.std.proofs.Common.{◌≡◌, ℕ, suc, pred, ◌+◌, ◌-◌, ◌*◌, ◌<◌, ◌≤◌, min, max, Bool, true, false, cond, List, [], ◌∷◌, reverse, length, Some, None, Option, unwrap_or, sym, refl, ap, ◌∙◌, subst, sub-one, arith}
-use Rattle.std.proofs.lemmas.Bool.Decides.{nat_tests}
 use Rattle.std.proofs.lemmas.Bool.{both_ways}
 use Rattle.grammar.specs.declared.event.TypeWord.{TypeWord}
 use Rattle.grammar.specs.declared.event.Event.{Event}

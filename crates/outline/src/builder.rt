@@ -1,4 +1,5 @@
 use crate::contents::Outline;
+use crate::limit::NODES;
 use pending::Open;
 use tables::table::Table;
 use values::types::CellRow;
@@ -23,7 +24,7 @@ pub(crate) struct Tally {
 #[derive(Drop)]
 pub(crate) struct Builder {
     pub(crate) outline: Outline,
-    pub(crate) opened: Table<Open, 2048>,
+    pub(crate) opened: Table<Open, NODES>,
     pub(crate) tally: Tally,
 }
 

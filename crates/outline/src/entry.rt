@@ -4,7 +4,8 @@ use values::types::CellRow;
 // What a text declares, with names as their places in the text. Row n of a line, from 1, is entry n - 1 of the line's
 // table; row 0 is the root, which no text declares.
 
-// A class or a relationship. Of a class, the ends are 0.
+// A class or a relationship. Of a class, the ends are 0, and nothing reads them: both lines have one type of table, and
+// ends in an Option would give each relationship a case that none has.
 #[derive(Clone, Copy, PartialEq, Eq, Debug, Default)]
 pub struct Row {
     pub name: usize,
