@@ -24,7 +24,7 @@ pub const NAMED_VARIABLES: usize = METHODS * (VARIABLES - 1);
 // variables a method has, and how high an expression or a statement is.
 #[derive(Clone, Copy, PartialEq, Eq, Debug)]
 pub enum Limit {
-    Classes,
+    Classes = 1,
     Relationships,
     Fields,
     Methods,
@@ -49,14 +49,6 @@ impl Limit {
     pub fn number(self) -> u8
         ensures { result ≡ limit_number self }
     {
-        match self {
-            Limit::Classes => 1,
-            Limit::Relationships => 2,
-            Limit::Fields => 3,
-            Limit::Methods => 4,
-            Limit::Variables => 5,
-            Limit::Nodes => 6,
-            Limit::Height => 7,
-        }
+        self as u8
     }
 }

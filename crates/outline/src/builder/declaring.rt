@@ -21,8 +21,7 @@ impl Builder {
         self.outline.classes.push(Row {
             name,
             parent,
-            first: 0,
-            second: 0,
+            ..Row::default()
         });
         self.tally.classes = self.tally.classes.saturating_add(1);
         self.begin(Lineage::Class, self.tally.classes);
