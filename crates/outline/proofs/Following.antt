@@ -41,13 +41,16 @@ tracks_empty b e =
       fine = record { opened = omega arith; variables = λ h. omega arith; newest = λ h f. absurd (both_ways false refl f); locals = λ f. omega arith };
       same =
           λ m. record {
-            classes = record { is = e.classes };
-            relationships = record { is = e.relationships };
-            fields = record { is = e.fields };
-            methods = record { is = e.methods };
-            variables = record { is = e.variables };
-            nodes = record { is = e.nodes };
-            blocks = record { is = e.blocks };
+            tables =
+                record {
+                  classes = record { is = e.classes };
+                  relationships = record { is = e.relationships };
+                  fields = record { is = e.fields };
+                  methods = record { is = e.methods };
+                  variables = record { is = e.variables };
+                  nodes = record { is = e.nodes };
+                  blocks = record { is = e.blocks };
+                };
             opened = record { is = e.opened };
             owner = ap (λ t. t.owner) e.tally;
             tallest = ap (λ t. t.tallest) e.tally;
@@ -124,11 +127,11 @@ same_tables t b g e =
     let n = listed_in 2048 l.nodes h6.0 in
     let s = g.tracks.same (record { classes = listed_in 31 l.classes h1.0; relationships = listed_in 31 l.relationships h2.0; fields = listed_in 128 l.fields h3.0; methods = listed_in 64 l.methods h4.0; nodes = n; count = omega arith; most = in_limit 12 (crowd 0 t) h5.0 }) in
     λ i. record {
-      classes = s.classes.is i;
-      relationships = s.relationships.is i;
-      fields = s.fields.is i;
-      methods = s.methods.is i;
-      variables = s.variables.is i;
-      nodes = s.nodes.is i;
-      blocks = s.blocks.is i;
+      classes = s.tables.classes.is i;
+      relationships = s.tables.relationships.is i;
+      fields = s.tables.fields.is i;
+      methods = s.tables.methods.is i;
+      variables = s.tables.variables.is i;
+      nodes = s.tables.nodes.is i;
+      blocks = s.tables.blocks.is i;
     }
