@@ -1,5 +1,6 @@
 -- The answer of a check is the first fault.
-use Rattle.std.proofs.Common.{◌≡◌, ℕ, ◌<◌, ◌≤◌, min, Bool, true, false, not, ◌⊎◌, List, length, Some, None, Option, sym, refl, subst, inl, inr, le_refl, arith}
+use Rattle.std.proofs.Common.{◌≡◌, ℕ, ◌<◌, ◌≤◌, min, Bool, true, false, not, ◌⊎◌, List, length, Some, None, Ok, Err, Option, Result, sym, refl, subst, inl, inr, le_refl, arith}
+use Rattle.std.specs.Result.{result_err}
 use Rattle.std.proofs.lemmas.Bool.{both_ways, cases_lt}
 use Rattle.values.specs.declared.types.Lineage.TheVariants.{Class, Relationship}
 use Rattle.outline.specs.Contents.{Contents}
@@ -263,9 +264,9 @@ module _ (text : List ℕ) (k : Contents) (d : Declared) where
   before n q (too_many_fields Class h e) = many_first q (low_left least_too_many_fields_class least_too_many_fields_relationship q (low_least (too_many_fields_place k d.ancestry Class) (length k.classes) _ q h e))
   before n q (too_many_fields Relationship h e) = many_first q (low_right least_too_many_fields_class least_too_many_fields_relationship q (low_least (too_many_fields_place k d.ancestry Relationship) (length k.relationships) _ q h e))
 
-  judge : (r : Option Misdeclared) → Sound r → ((n q : ℕ) → Fault text k d n q → Before r n q) → Judged text k d r
-  judge None s b = record { none = b }
-  judge (Some m) s b = record { fault = s; first = b }
+  judge : (r : Result (Unit {0}) Misdeclared) → Sound (result_err r) → ((n q : ℕ) → Fault text k d n q → Before (result_err r) n q) → Judged text k d r
+  judge (Ok u) s b = record { none = b }
+  judge (Err m) s b = record { fault = s; first = b }
 
-  pub judged : (r : Option Misdeclared) → r ≡ misdeclared_of text k d → Judged text k d r
-  judged r e = subst (Judged text k d) (sym e) (judge (misdeclared_of text k d) sound before)
+  pub judged : (r : Result (Unit {0}) Misdeclared) → result_err r ≡ misdeclared_of text k d → Judged text k d r
+  judged r e = judge r (subst Sound (sym e) sound) (λ n q h. subst (λ o. Before o n q) (sym e) (before n q h))

@@ -12,4 +12,4 @@ mod naming;
 mod parents;
 pub mod refusal;
 pub mod resolving;
-pub mod rows;
+pub mod source;
