@@ -34,7 +34,7 @@ fn grammar_verdict(heap: Global, text: &[u8]) -> Result<String, AllocError> {
     }
 }
 
-fn judge_all(rt: &HostRuntime) -> anyhow::Result<()> {
+fn main(rt: HostRuntime) -> anyhow::Result<()> {
     let heap = rt.alloc();
     for line in BufReader::new(heap, rt.stdin())?.lines(heap) {
         let text = decode(heap, line?.as_str())?;
@@ -43,8 +43,4 @@ fn judge_all(rt: &HostRuntime) -> anyhow::Result<()> {
         println!(rt; "{words} / {grammar}")?;
     }
     Ok(())
-}
-
-fn main(rt: HostRuntime) -> anyhow::Result<()> {
-    judge_all(&rt)
 }
