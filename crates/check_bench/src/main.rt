@@ -16,7 +16,7 @@ const PASSES: u32 = 50;
 const ROUNDS: u32 = 40;
 
 // How many passes of a round accept the text.
-fn round(text: &[u8], place: &mut Program) -> usize {
+fn accepted(text: &[u8], place: &mut Program) -> usize {
     let mut scratch = [0u16; 2048];
     (0..PASSES)
         .filter(|_| check(text, &mut scratch, place).is_ok())
@@ -30,7 +30,7 @@ fn measure(rt: &HostRuntime) -> anyhow::Result<()> {
     let mut passes = 0;
     for _ in 0..ROUNDS {
         let start = Instant::now(rt)?;
-        passes = round(text.as_slice(), &mut place);
+        passes = accepted(text.as_slice(), &mut place);
         best = best.min(start.elapsed(rt)?.as_secs_f64());
     }
     let size = text.len();
