@@ -2,7 +2,6 @@
 #![tactic(auto)]
 
 mod plain;
-mod random;
 mod trial;
 
 use even_store::even::EvenStore;

@@ -1,6 +1,6 @@
 use crate::plain::{CELL_LIMIT, Plain};
-use crate::random::Random;
 use cells::CellSet;
+use program_tools::random::Random;
 use std::alloc::AllocError;
 use std::fmt;
 use store::Store;
