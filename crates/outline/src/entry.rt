@@ -4,7 +4,8 @@ use values::types::CellRow;
 // What a text declares, with names as their places in the text. Row n of a line, from 1, is entry n - 1 of the line's
 // table; row 0 is the root, which no text declares.
 
-// A class or a relationship. Of a class, the ends are 0.
+// A class or a relationship. Of a class, the ends are 0, and nothing reads them: both lines have one type of table, and
+// ends in an Option would give each relationship a case that none has.
 #[derive(Clone, Copy, PartialEq, Eq, Debug, Default)]
 pub struct Row {
     pub name: usize,
@@ -79,17 +80,4 @@ pub struct Block {
     pub branch: usize,
     pub otherwise: usize,
     pub joined: usize,
-}
-
-// What is not complete yet: a value that no node has taken, an assignment whose value is to come (to a member or to a
-// variable, with its name and place), or a branch (with the number of the first node after its first block as `name`,
-// once that is known). `node` is the number of the value's node, of the branch, or of the object to whose member is
-// assigned; `height` its height, no more than one above the limit, and for a branch the greatest height of its parts.
-#[derive(Clone, Copy, PartialEq, Eq, Debug, Default)]
-pub struct Open {
-    pub member: bool,
-    pub node: usize,
-    pub name: usize,
-    pub place: usize,
-    pub height: u8,
 }

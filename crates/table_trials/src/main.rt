@@ -2,7 +2,6 @@
 // With an argument it measures how fast the tables are instead.
 #![tactic(auto)]
 
-mod dice;
 mod limits;
 mod model;
 mod sets;

@@ -1,6 +1,6 @@
 // Random calls of sets of cells, each compared with a plain list of members.
-use crate::dice::Dice;
 use cells::CellSet;
+use program_tools::random::Dice;
 use std::alloc::{AllocError, Global};
 
 // A set as the list of its members.

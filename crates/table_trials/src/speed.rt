@@ -1,8 +1,8 @@
 // How many calls of a pair table are done in a second.
-use crate::dice::Dice;
 use anyhow::anyhow;
 use pairs::row::Row;
 use pairs::table::PairTable;
+use program_tools::random::Dice;
 use std::time::Instant;
 
 const CALLS: u32 = 1_000_000;

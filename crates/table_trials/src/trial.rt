@@ -1,8 +1,8 @@
 // Random calls of a pair table, each answer compared with that of a plain list.
-use crate::dice::Dice;
 use crate::model::Model;
 use pairs::row::{PutRefusal, Row};
 use pairs::table::PairTable;
+use program_tools::random::Dice;
 use std::alloc::{AllocError, Global};
 
 // What came of a trial.

@@ -1,11 +1,12 @@
 ghost use Rattle.std.specs.Prelude.{◌≡◌};
-ghost use Rattle.outline.specs.Built.{Empty, limit_of};
+ghost use Rattle.outline.specs.Built.{Empty, passes, limit_of};
 
 use super::{Builder, Tally};
 use crate::contents::Outline;
-use crate::limit::Limit;
+use crate::limit::{
+    CLASSES, FIELDS, HEIGHT, LIMITS, Limit, METHODS, NODES, RELATIONSHIPS, VARIABLES,
+};
 use tables::table::Table;
-use values::types::CellRow;
 
 impl Builder {
     // Before the first event.
@@ -23,18 +24,23 @@ impl Builder {
                 blocks: Table::new(),
             },
             opened: Table::new(),
-            tally: Tally {
-                classes: 0,
-                relationships: 0,
-                fields: 0,
-                methods: 0,
-                locals: 0,
-                most: 0,
-                nodes: 0,
-                tallest: 0,
-                owner: CellRow::default(),
-                in_method: false,
-            },
+            tally: Tally::default(),
+        }
+    }
+
+    // Whether the counts pass a limit.
+    fn passes(&self, limit: Limit) -> bool
+        ensures { result ≡ passes self.now.tally limit }
+    {
+        let tally = self.tally;
+        match limit {
+            Limit::Classes => usize::from(tally.classes) > CLASSES,
+            Limit::Relationships => usize::from(tally.relationships) > RELATIONSHIPS,
+            Limit::Fields => usize::from(tally.fields) > FIELDS,
+            Limit::Methods => usize::from(tally.methods) > METHODS,
+            Limit::Variables => usize::from(tally.most) > VARIABLES,
+            Limit::Nodes => usize::from(tally.nodes) > NODES,
+            Limit::Height => usize::from(tally.tallest) > HEIGHT,
         }
     }
 
@@ -42,35 +48,14 @@ impl Builder {
     pub(crate) fn limit(&self) -> Option<Limit>
         ensures { result ≡ limit_of self.now.tally }
     {
-        let tally = self.tally;
-        if tally.classes > 31 {
-            Some(Limit::Classes)
-        } else if tally.relationships > 31 {
-            Some(Limit::Relationships)
-        } else if tally.fields > 128 {
-            Some(Limit::Fields)
-        } else if tally.methods > 64 {
-            Some(Limit::Methods)
-        } else if tally.most > 12 {
-            Some(Limit::Variables)
-        } else if tally.nodes > 2048 {
-            Some(Limit::Nodes)
-        } else if tally.tallest > 16 {
-            Some(Limit::Height)
-        } else {
-            None
-        }
+        LIMITS.iter().copied().find(|limit| self.passes(*limit))
     }
 
     // The tables alone.
     pub(crate) fn into_outline(self) -> Outline
         ensures { result ≡ self.outline }
     {
-        let Builder {
-            outline,
-            opened: _,
-            tally: _,
-        } = self;
+        let Builder { outline, .. } = self;
         outline
     }
 }

@@ -25,11 +25,12 @@ impl Lines {
         ensures relation { Decides result (RowFits (ancestry self.now) from m to n) }
         ensures same { result ≡ row_fits_to (ancestry self.now) from m to n }
     {
-        match (from, to) {
-            (Lineage::Class, Lineage::Class) => self.classes.descends(m, n),
-            (Lineage::Relationship, Lineage::Relationship) => self.relationships.descends(m, n),
-            (Lineage::Relationship, Lineage::Class) => n == 0 && m < self.relationships.rows(),
-            (Lineage::Class, Lineage::Relationship) => false,
+        if from == to {
+            return self.line(from).descends(m, n);
+        }
+        match from {
+            Lineage::Class => false,
+            Lineage::Relationship => n == 0 && m < self.relationships.rows(),
         }
     }
 
@@ -38,8 +39,9 @@ impl Lines {
         ensures { result ≡ kind_fits_to (ancestry self.now) s.kind s.row t.kind t.row }
     {
         match (s.kind(), t.kind()) {
-            (Kind::Row(k), Kind::Row(l)) => self.row_fits(k, s.row(), l, t.row()),
-            (Kind::Set(k), Kind::Set(l)) => self.row_fits(k, s.row(), l, t.row()),
+            (Kind::Row(k), Kind::Row(l)) | (Kind::Set(k), Kind::Set(l)) => {
+                self.row_fits(k, s.row(), l, t.row())
+            }
             (Kind::Null, Kind::Row(_)) => true,
             _ => false,
         }
@@ -51,6 +53,6 @@ impl Lines {
         ensures same { result ≡ fits_to (ancestry self.now) s t }
         ensures laws { FitLaws (ancestry self.now) }
     {
-        s.same(t) || self.kind_fits(s, t)
+        s == t || self.kind_fits(s, t)
     }
 }
