@@ -12,7 +12,6 @@ use Rattle.declarations.specs.declared.declarations.Ends.{Ends}
 use Rattle.declarations.specs.Resolved.{Declared}
 use Rattle.tables.specs.Items.{given}
 use Rattle.typing.specs.declared.step.Step.TheVariants as step
-use Rattle.typing.specs.declared.step.Ruling.TheVariants as ruling
 use Rattle.typing.specs.HasType.{Is, Before, EndsOf, Comparable, as_null, as_row, HasType, true_typed, false_typed, null_typed, this_typed, variable_typed, new_typed, partners_typed, field_typed, instances_typed, from_typed, to_typed, equal_typed, set_variable_typed, set_field_typed, add_typed, rem_typed, call_typed, InOrder, action_ordered, branch_ordered, return_ordered}
 use Rattle.typing.specs.Lookup.{row_of_kind, as_relationship, relationship_of}
 use Rattle.typing.specs.Typing.{ordered, comparable, is_boolean, of_shape}

@@ -57,7 +57,11 @@ fn part(scratch: &[u16], i: usize, part: Option<usize>) -> Option<Ty>
     ensures { result ≡ part_in scratch.now i part }
 {
     let j = part?;
-    if j < i { decode(*scratch.get(j)?) } else { None }
+    if j < i {
+        decode(*scratch.get(j)?)
+    } else {
+        None
+    }
 }
 
 // A node that no rule covers, though its parts have types: its place in the text.

@@ -1,4 +1,4 @@
-use Rattle.std.proofs.Common.{rules, ◌≡◌, ℕ, ◌<◌, ◌≤◌, min, length, get_or, take, Some, None, sym, ap, ◌∙◌, arith, length-take}
+use Rattle.std.proofs.Common.{◌≡◌, ℕ, ◌<◌, ◌≤◌, min, length, get_or, take, sym, ap, ◌∙◌, arith, length-take}
 use Rattle.outline.specs.Contents.{contents}
 use Rattle.tables.specs.Below.{pushed_below, least_below}
 use Rattle.tables.specs.Listed.{listed}
@@ -46,7 +46,7 @@ returns c =
     let nodes = c.as_slice-nodes.result.now in
     let end : c.loop-i.i ≡ n = omega (arith, c.min-n.ensures, c.loop-i-test.false, c.loop-i.auto.i-end, length-take n nodes) in
     let all : c.loop-i.i ≡ min (length k.nodes) (length c.args.scratch.now) =
-        end ∙ c.min-n.ensures ∙ ap (λ (x : _). min (length x) (length c.args.scratch.now)) c.as_slice-nodes.ensures in
+    end ∙ c.min-n.ensures ∙ ap (λ (x : _). min (length x) (length c.args.scratch.now)) c.as_slice-nodes.ensures in
     let few : min (length k.nodes) (length c.args.scratch.now) ≤ 2048 = omega (arith, few_listed c.args.self.now.source.outline.now.nodes) in
     let listing = c.loop-i.invariant.2 ∙ ap (λ (m : ℕ). pushed_below 2048 (instruction_at text k d) m (listed c.args.steps.now)) all in
     let lines = are_lines c.args.self.now.declarations.now.lines in
