@@ -1,7 +1,7 @@
 use Rattle.std.proofs.Common.{◌+◌, length, ap, arith}
 use Rattle.outline.specs.Contents.{contents}
 use Rattle.tables.specs.Below.{tabulated}
-use Rattle.tables.proofs.Laws.{few_listed, turns}
+use Rattle.tables.proofs.Laws.{few_listed}
 use Rattle.declarations.specs.Resolved.{ends_of}
 use Rattle.declarations.proofs.Growing.{ends_next, tabulated_more}
 use Rattle.declarations.proofs.source.Source.ends.Goals as goal
@@ -19,6 +19,3 @@ loop-row-preserved c =
     tabulated_more _ (c.loop-row.row-index + 1) _ _ _ c.loop-row.invariant
     (ends_next _ _ _ _ _ _ c.as_slice-row-items.ensures c.loop-row-test.true c.ends_of.ensures)
     (omega (arith, n, m, c.loop-row-test.true)) c.push-in-loop-row.ensures
-
-pub returns : goal.returns
-returns c = rw (← turns _ _ _ c.as_slice-row-items.ensures c.loop-row.auto.row-index-end c.loop-row-test.false) c.loop-row.invariant

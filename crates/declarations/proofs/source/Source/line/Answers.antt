@@ -1,7 +1,7 @@
 use Rattle.std.proofs.Common.{◌∙◌, ap, length, arith}
 use Rattle.outline.specs.Contents.{contents}
 use Rattle.tables.specs.Below.{tabulated}
-use Rattle.tables.proofs.Laws.{few_listed, turns}
+use Rattle.tables.proofs.Laws.{few_listed}
 use Rattle.declarations.proofs.Growing.{grows, parent_low, parent_next}
 use Rattle.declarations.proofs.source.Source.line.Goals as goal
 
@@ -17,6 +17,3 @@ loop-i-preserved c =
     let n = few_listed c.rows.result.now in
     let m = ap length c.as_slice-row-items.ensures in
     grows _ _ _ _ _ _ c.loop-i.invariant p (omega (arith, p, h)) (omega (arith, n, m, c.loop-i-test.true)) c.add.ensures
-
-pub returns : goal.returns
-returns c = rw (← turns _ _ _ (c.as_slice-row-items.ensures ∙ c.rows.ensures) c.loop-i.auto.i-end c.loop-i-test.false) c.loop-i.invariant
