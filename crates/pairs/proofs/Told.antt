@@ -1,5 +1,6 @@
 -- The set of what was told, cell by cell, and what the rows of a relationship from a cell tell.
 use Rattle.std.proofs.Common.{◌≡◌, ℕ, ◌≤◌, Bool, true, false, cond, ◌&&◌, ◌||◌, eqb, ltb, List, [], ◌∷◌, is_some, Some, None, Option, sym, refl, ap, ◌∙◌, ap₂, inl, inr, arith}
+use Rattle.std.proofs.Math.Bool.{and_assoc, or-false}
 use Rattle.std.proofs.lemmas.Bool.{and_parts, and_from, cases_lt, eqb-true, eq-eqb, or_cases, or_left, or_right, both_ways}
 use Rattle.std.proofs.lemmas.Bool.Decides.{nat_tests}
 use Rattle.std.specs.Bool.{then_some}
@@ -33,11 +34,7 @@ has_put_in s c d = elim (cases_lt d 128) [
     past a b h l = grind (arith, nat_tests)
 
 has_folded : (told : List ℕ) (s : CellSet) (d : ℕ) → has (fold put_in s told) d ≡ (has s d || (list_any (λ c. eqb c d) told && ltb d 128))
-has_folded [] s d = nothing (has s d)
-  where
-    nothing : (a : Bool) → a ≡ (a || false)
-    nothing true = refl
-    nothing false = refl
+has_folded [] s d = sym (or-false (has s d))
 has_folded (c ∷ told) s d =
     has_folded told (put_in s c) d
     ∙ ap (λ x. x || (list_any (λ k. eqb k d) told && ltb d 128)) (has_put_in s c d)
@@ -77,13 +74,9 @@ unfolding in_force
 told_to r f [] d = refl
 told_to r f (a ∷ rows) d =
     told_more (leads a r f) a.to (filter_map (to_from r f) rows) d
-    ∙ ap₂ (λ x y. x || y) (regroup (eqb a.relationship r) (eqb a.from f) (eqb a.to d)) (told_to r f rows d)
+    ∙ ap₂ (λ x y. x || y) (and_assoc (eqb a.relationship r) (eqb a.from f) (eqb a.to d)) (told_to r f rows d)
     ∙ split (joins a r f d) a.instance (in_force rows r f d)
   where
-    regroup : (x y z : Bool) → ((x && y) && z) ≡ (x && (y && z))
-    regroup true y z = refl
-    regroup false y z = refl
-
     split : (b : Bool) (i : ℕ) (o : Option ℕ) → (b || is_some o) ≡ is_some (cond b (Some i) o)
     split true i o = refl
     split false i o = refl

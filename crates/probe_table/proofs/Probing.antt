@@ -6,7 +6,7 @@ use Rattle.std.specs.Option.{option_map}
 use Rattle.std.proofs.Common.{below_more}
 use lib.Seq.{split_at, set_split}
 use Rattle.std.proofs.lemmas.List.{append-nil, get_or-set_same, get_or-set_other, take_more, take_all}
-use Rattle.std.proofs.lemmas.Bool.{both_ways, cases_lt, cases_eq, and_parts}
+use Rattle.std.proofs.lemmas.Bool.{not-false, not-true, both_ways, cases_lt, cases_eq, and_parts}
 use Rattle.std.proofs.lemmas.Nat.{mod_below}
 use Rattle.pairs.specs.declared.row.Row.{Row}
 use Rattle.probe_table.specs.declared.place.Place.{Place}
@@ -258,25 +258,12 @@ held_not_free Free h = absurd (both_ways false refl h)
 held_not_free Dropped h = refl
 held_not_free (Held row) h = refl
 
-pub not_held : (x : Place) → ((row : Row) → x ≡ Held row → ⊥) → is_held x ≡ false
-not_held Free h = refl
-not_held Dropped h = refl
-not_held (Held row) h = absurd (h row refl)
-
 -- a way on which every place holds a row
 pub way_full : (places : List Place) → length places ≡ 512 → (r f t : ℕ) → ((i : ℕ) → i < 512 → is_held (place_at places (along r f t i)) ≡ true) → length (held places) ≡ 512
 way_full places whole r f t h = held_full places (λ p l. go p (along_every r f t p (omega arith))) ∙ whole
   where
     go : (p : ℕ) → (j : ℕ) × (j < 512) × (along r f t j ≡ p) → is_held (place_at places p) ≡ true
     go p x = ap (λ q. is_held (place_at places q)) (sym x.2) ∙ h x.0 x.1
-
-not_false : (b : Bool) → not b ≡ false → b ≡ true
-not_false true h = refl
-not_false false h = sym h
-
-not_true : (b : Bool) → not b ≡ true → b ≡ false
-not_true true h = sym h
-not_true false h = refl
 
 -- a row by the three numbers that it joins
 pub row_is : (row : Row) (r f t : ℕ) → joins row r f t ≡ true → row ≡ record { relationship = r; from = f; to = t; instance = row.instance }
@@ -331,7 +318,7 @@ located_told places whole h r f t (Some x) l = sym (in_force_place places x.0 (o
 module _ (places : List Place) (whole : length places ≡ 512) (few : length (held places) < 512) (r f t : ℕ) where
   pub room_found : (o : Option ℕ) → First (λ x. not (is_held x)) places r f t o → IsSome o
   room_found None h =
-      let all = way_full places whole r f t (λ i l. not_false (is_held (place_at places (along r f t i))) (h i l)) in
+      let all = way_full places whole r f t (λ i l. not-false (is_held (place_at places (along r f t i))) (h i l)) in
       absurd (omega arith)
   room_found (Some p) h = refl
 
@@ -342,8 +329,8 @@ open_found places r f t p h =
       few = h.few;
       here = h.here;
       below = first_below h;
-      vacant = not_true (is_held (place_at places p)) h.passes;
-      before = λ i l. held_not_free _ (not_false (is_held (place_at places (along r f t i))) (h.before i l));
+      vacant = not-true (is_held (place_at places p)) h.passes;
+      before = λ i l. held_not_free _ (not-false (is_held (place_at places (along r f t i))) (h.before i l));
     }
 
 -- ---- rows stay reached

@@ -27,6 +27,7 @@ const PLACES: usize = 512;
 const WORN: usize = 320;
 
 // Up to 256 rows in 512 places. A dropped row's place is marked, so that rows further on are still reached.
+// A place is reached by its number alone, so the places are an array: `count` and `spent` are no lengths of it.
 // At most 320 places are not free at any time, so a search soon meets a free one, however many rows were put in and dropped.
 #[derive(Drop)]
 pub struct ProbeTable {

@@ -1,5 +1,5 @@
 -- Rows by their place in a list: the row at a place, a list without it, and a row at the end.
-use Rattle.std.proofs.Common.{◌≡◌, eqb, ℕ, zero, suc, ◌+◌, ◌-◌, ◌<◌, ◌≤◌, Bool, true, false, cond, List, [], ◌∷◌, ◌++◌, length, take, drop, set, Some, None, sym, refl, ap, ◌∙◌, subst, inl, inr, arith, length-append, length-take}
+use Rattle.std.proofs.Common.{◌≡◌, eqb, ℕ, suc, ◌+◌, ◌-◌, ◌<◌, ◌≤◌, Bool, true, false, cond, List, [], ◌∷◌, ◌++◌, length, take, drop, set, Some, None, sym, refl, ap, ◌∙◌, subst, inl, inr, arith, length-append, length-take}
 use lib.Seq.{split_at, set_split, take-set-lt, take-set-le}
 use Rattle.std.specs.List.{position, position_or_len, swap_remove}
 use Rattle.std.specs.Option.{option_map}
@@ -18,12 +18,6 @@ use Rattle.pairs.proofs.Changed.{Grown, Gone, grown, grown_push, gone, dropped}
 -- what stands at a place past the end
 abbrev pub no_row : Row
 no_row = record { relationship = 0; from = 0; to = 0; instance = 0 }
-
-pub small_at : (rows : List Row) (p : ℕ) → all_small rows ≡ true → p < length rows → Small (row_at rows p)
-unfolding all_small
-small_at [] p h l = absurd (omega arith)
-small_at (row ∷ rows) zero h l = small_row row (and_parts (small row) (all_small rows) h).0
-small_at (row ∷ rows) (suc p) h l = small_at rows p (and_parts (small row) (all_small rows) h).1 (omega arith)
 
 -- the instance at the place of a relationship and two cells
 pub in_force_at : (rows : List Row) (p : ℕ) → apart rows ≡ true → p < length rows → (r f t : ℕ) → joins (row_at rows p) r f t ≡ true

@@ -15,34 +15,26 @@ fn nth_row(n: u16) -> Row {
     }
 }
 
+// For how many of the rows it holds.
+fn counted<F: FnMut(Row) -> bool>(mut holds: F) -> usize
+    requires { (state : F) (row : _) → F.pre state row }
+{
+    (0..LIMIT).map(nth_row).filter(|row| holds(*row)).count()
+}
+
 // How many of the rows are found with their own instances.
 fn found<P: PairTable>(table: &P) -> usize {
-    (0..LIMIT)
-        .map(nth_row)
-        .filter(|row| table.find(row.link()) == Some(row.instance))
-        .count()
+    counted(|row| table.find(row.link()) == Some(row.instance))
 }
 
 // Puts in as many rows as may be; how many were taken.
-fn filled<P: PairTable>(table: &mut P) -> u32 {
-    let mut taken = 0u32;
-    for row in (0..LIMIT).map(nth_row) {
-        if table.put(row).is_ok() {
-            taken = taken.saturating_add(1);
-        }
-    }
-    taken
+fn filled<P: PairTable>(table: &mut P) -> usize {
+    counted(|row| table.put(row).is_ok())
 }
 
 // Takes every row out; how many were there.
-fn emptied<P: PairTable>(table: &mut P) -> u32 {
-    let mut dropped = 0u32;
-    for row in (0..LIMIT).map(nth_row) {
-        if table.drop_row(row.link()) == Some(row.instance) {
-            dropped = dropped.saturating_add(1);
-        }
-    }
-    dropped
+fn emptied<P: PairTable>(table: &mut P) -> usize {
+    counted(|row| table.drop_row(row.link()) == Some(row.instance))
 }
 
 // Whether the numbers past the limits are refused, a bad relationship first.
