@@ -273,19 +273,23 @@ row_is row r f t h =
 
 -- ---- a search by a test
 
+-- the place at a step of the way, and what it is
+abbrev pub step_of : List Place → ℕ → ℕ → ℕ → ℕ → ℕ × Place
+step_of places r f t k = (along r f t k, place_at places (along r f t k))
+
 first_from : (test : Place → Bool) (places : List Place) (r f t a n : ℕ) → a + n ≡ 512 → ((i : ℕ) → i < a → test (place_at places (along r f t i)) ≡ false)
-    → First test places r f t (find (λ p. test (place_at places p)) (map (along r f t) (range_with_len a n)))
+    → First test places r f t (find (λ x. test x.1) (map (step_of places r f t) (range_with_len a n)))
 first_from test places r f t a zero e before = λ i l. before i (omega arith)
 first_from test places r f t a (suc n) e before = go (test (place_at places (along r f t a))) refl (first_from test places r f t (a + 1) n (omega arith))
   where
     go : (b : Bool) → test (place_at places (along r f t a)) ≡ b
         → (((i : ℕ) → i < a + 1 → test (place_at places (along r f t i)) ≡ false)
-        → First test places r f t (find (λ p. test (place_at places p)) (map (along r f t) (range_with_len (a + 1) n))))
-        → First test places r f t (cond b (Some (along r f t a)) (find (λ p. test (place_at places p)) (map (along r f t) (range_with_len (a + 1) n))))
-    go true h more = record { steps = a; few = omega arith; here = refl; passes = h; before = before }
+        → First test places r f t (find (λ x. test x.1) (map (step_of places r f t) (range_with_len (a + 1) n))))
+        → First test places r f t (cond b (Some (along r f t a, place_at places (along r f t a))) (find (λ x. test x.1) (map (step_of places r f t) (range_with_len (a + 1) n))))
+    go true h more = (record { steps = a; few = omega arith; here = refl; passes = h; before = before }, refl)
     go false h more = more (below_more (λ i. test (place_at places (along r f t i)) ≡ false) a before h)
 
-pub first_found : (test : Place → Bool) (places : List Place) (r f t : ℕ) → First test places r f t (find (λ p. test (place_at places p)) (map (along r f t) (range_with_len 0 512)))
+pub first_found : (test : Place → Bool) (places : List Place) (r f t : ℕ) → First test places r f t (find (λ x. test x.1) (map (step_of places r f t) (range_with_len 0 512)))
 first_found test places r f t = first_from test places r f t 0 512 refl (λ i l. absurd (omega arith))
 
 pub first_below : {test : Place → Bool} {places : List Place} {r f t p : ℕ} → FirstAt test places r f t p → p < 512
@@ -316,11 +320,11 @@ located_told places whole h r f t (Some x) l = sym (in_force_place places x.0 (o
 
 -- a search for a place that holds no row finds one, where there are fewer rows than places
 module _ (places : List Place) (whole : length places ≡ 512) (few : length (held places) < 512) (r f t : ℕ) where
-  pub room_found : (o : Option ℕ) → First (λ x. not (is_held x)) places r f t o → IsSome o
+  pub room_found : (o : Option (ℕ × Place)) → First (λ x. not (is_held x)) places r f t o → IsSome o
   room_found None h =
       let all = way_full places whole r f t (λ i l. not-false (is_held (place_at places (along r f t i))) (h i l)) in
       absurd (omega arith)
-  room_found (Some p) h = refl
+  room_found (Some x) h = refl
 
 pub open_found : (places : List Place) (r f t p : ℕ) → FirstAt (λ x. not (is_held x)) places r f t p → Open places r f t p
 open_found places r f t p h =

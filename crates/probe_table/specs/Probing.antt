@@ -81,9 +81,10 @@ pub record FirstAt (test : Place → Bool) (places : List Place) (r f t p : ℕ)
   pub passes : test (place_at places p) ≡ true
   pub before : (i : ℕ) → i < steps → test (place_at places (along r f t i)) ≡ false
 
-abbrev pub First : (Place → Bool) → List Place → ℕ → ℕ → ℕ → Option ℕ → Type 0
+-- that place, and what it is
+abbrev pub First : (Place → Bool) → List Place → ℕ → ℕ → ℕ → Option (ℕ × Place) → Type 0
 First test places r f t None = (i : ℕ) → i < 512 → test (place_at places (along r f t i)) ≡ false
-First test places r f t (Some p) = FirstAt test places r f t p
+First test places r f t (Some x) = FirstAt test places r f t x.0 × (x.1 ≡ place_at places x.0)
 
 -- the place, and the instance, of the row of a relationship and two cells
 abbrev pub Located : List Place → ℕ → ℕ → ℕ → Option (ℕ × ℕ) → Type 0

@@ -68,22 +68,25 @@ impl ProbeTable {
         }
     }
 
-    // The first place on the way of a link at which the search stops.
-    fn first<F: Fn(&Place) -> bool>(&self, link: Link, stops: F) -> Option<usize>
+    // The first place on the way of a link at which the search stops, with what it is.
+    fn first<F: Fn(&Place) -> bool>(&self, link: Link, stops: F) -> Option<(usize, Place)>
         requires { F.IsAlwaysCallable stops }
         ensures { (test : Place → Bool) → Tells F.Fn stops test → First test self.now.places link.relationship link.from link.to result }
     {
         (0..PLACES)
-            .map(|k| probe(link, k))
-            .find(|place| stops(&self.places[*place]))
+            .map(|k| {
+                let place = probe(link, k);
+                (place, self.places[place])
+            })
+            .find(|(_, here)| stops(here))
     }
 
     // The place and the instance of the row of a link.
     fn position(&self, link: Link) -> Option<(usize, u8)>
         ensures { Located self.now.places link.relationship link.from link.to result }
     {
-        let place = self.first(link, |place| place.ends(link))?;
-        let row = self.places[place].row()?;
+        let (place, here) = self.first(link, |here| here.ends(link))?;
+        let row = here.row()?;
         Some((place, row.instance))
     }
 
@@ -92,7 +95,8 @@ impl ProbeTable {
         requires { self.now.count < 256 }
         ensures { Open self.now.places link.relationship link.from link.to result }
     {
-        self.first(link, |place| !place.is_held()).unwrap()
+        let (place, _) = self.first(link, |here| !here.is_held()).unwrap();
+        place
     }
 
     // Puts in a row that is good, is not there and has room.
