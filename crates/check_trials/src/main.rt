@@ -25,19 +25,8 @@ struct Verdict {
 impl fmt::Display for Verdict {
     fn fmt<W: fmt::Write>(&self, f: &mut fmt::Formatter<W>) -> fmt::Result {
         match self.answer {
-            Ok(
-                Counts {
-                    classes,
-                    relationships,
-                    fields,
-                    methods,
-                    nodes,
-                },
-            ) => write!(
-                f,
-                "accepted {classes} {relationships} {fields} {methods} {nodes}"
-            )?,
-            Err(refusal) => write!(f, "{} {}", refusal.number(), refusal.place())?,
+            Ok(counts) => write!(f, "accepted {counts}")?,
+            Err(refusal) => write!(f, "{refusal}")?,
         }
         if self.another_program {
             write!(f, " and another program")?;

@@ -13,7 +13,7 @@ fn main(rt: HostRuntime) -> anyhow::Result<()> {
         Ok(Extent { words, depth }) => println!(rt;
             "a program of {words} words, depth {depth}; declarations and types not judged yet"
         )?,
-        Err(refusal) => println!(rt; "{} {}", refusal.number(), refusal.place())?,
+        Err(refusal) => println!(rt; "{refusal}")?,
     }
     Ok(())
 }

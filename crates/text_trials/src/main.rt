@@ -21,7 +21,7 @@ fn verdict(heap: Global, text: &[u8]) -> Result<String, AllocError>
 {
     match survey(text) {
         Ok(Extent { words, depth }) => format!(in heap; "ok {words} {depth}"),
-        Err(refusal) => format!(in heap; "{} {}", refusal.number(), refusal.place()),
+        Err(refusal) => format!(in heap; "{refusal}"),
     }
 }
 
@@ -30,7 +30,7 @@ fn grammar_verdict(heap: Global, text: &[u8]) -> Result<String, AllocError> {
     match judge(text, &mut Nowhere) {
         Ok(_) => String::from_str(heap, "program"),
         Err(TextRefusal::Unreadable(_)) => String::from_str(heap, "-"),
-        Err(TextRefusal::Unexpected(Unexpected { place })) => format!(in heap; "13 {place}"),
+        Err(refusal) => format!(in heap; "{refusal}"),
     }
 }
 
