@@ -19,6 +19,7 @@ fn run_of<F: Fn(u8) -> bool>(s: &[u8], passes: F) -> usize
     ensures passing { (k : ℕ) → k < result → F.post passes (slice_index s.now k) true }
     ensures stopped { result < length s.now → F.post passes (slice_index s.now result) false }
 {
+    // a chain of `take_while` and `count` makes a survey a seventh slower
     for (n, &b) in s.iter().enumerate() {
         if !passes(b) {
             return n;

@@ -24,7 +24,7 @@ pub fn spells(text: &[u8], place: usize, bytes: &[u8]) -> bool
     ensures { result ≡ is_name text.now place bytes.now }
 {
     match (text.get(place), bytes.first()) {
-        // tells most names apart, which makes this six times as fast
+        // tells most names apart, which makes this four times as fast
         (Some(at), Some(first)) if at != first => false,
         _ => name_at(text, place) == bytes,
     }
