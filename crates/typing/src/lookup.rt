@@ -1,9 +1,11 @@
-ghost use Rattle.std.specs.Prelude.{◌≡◌, ◌&&◌, ◌==◌, count_by, position, take};
+ghost use Rattle.std.specs.Prelude.{◌≡◌, ℕ, Option, ◌&&◌, ◌==◌, count_by, position, take};
 ghost use Rattle.words.specs.Names.{is_name};
 ghost use Rattle.declarations.specs.Descending.{same_row};
 ghost use Rattle.outline.specs.Contents.{contents};
 ghost use Rattle.declarations.specs.Resolved.{declared};
-ghost use Rattle.typing.specs.Lookup.{in_line, class_named, relationship_named, row_of, relationship_of, variable_named, variable_number, field_of, field_upward, method_of_row, method_upward, field_from, method_from};
+ghost use Rattle.descent.specs.Nearest.{Computes, nearest_up};
+ghost use Rattle.values.specs.Fits.{line_in};
+ghost use Rattle.typing.specs.Lookup.{found_there, in_line, class_named, relationship_named, row_of, relationship_of, variable_named, variable_number, field_of, field_upward, method_of_row, method_upward, field_from, method_from};
 
 use crate::typer::Typer;
 use declarations::source::Source;
@@ -131,17 +133,25 @@ fn method_of(source: &Source<'_>, row: CellRow, name: &[u8]) -> Option<usize>
 }
 
 impl<'a> Typer<'a> {
+    // The member that is found upward from a row, where `member` tells what a row of its line has.
+    fn upward<F: Fn(u8) -> Option<usize>>(&self, row: CellRow, member: F) -> Option<usize>
+        requires { F.IsAlwaysCallable member }
+        ensures { (m : ℕ → Option ℕ) → Computes (F.post member) m → result ≡ found_there (nearest_up (line_in (declared self.now.declarations.now).ancestry row.lineage) m row.number) }
+    {
+        let line = self.declarations.lines.line(row.lineage);
+        let found = nearest(line, row.number, member);
+        found.map(|(_, member)| member)
+    }
+
     // The field with the name at a place that is found upward from a row.
     #[tactic(auto, unfolding(crate::specs::Lookup::field_upward))]
     fn field_upward(&self, row: CellRow, place: usize) -> Option<usize>
         ensures { result ≡ field_upward self.now.source.text.now (contents self.now.source.outline.now) (declared self.now.declarations.now) row place }
     {
-        let line = self.declarations.lines.line(row.lineage);
         let name = self.source.name_at(place);
-        let found = nearest(line, row.number, |number| {
+        self.upward(row, |number| {
             field_of(&self.source, CellRow { number, ..row }, name)
-        });
-        found.map(|(_, field)| field)
+        })
     }
 
     // The method with the name at a place that is found upward from a row.
@@ -149,12 +159,10 @@ impl<'a> Typer<'a> {
     fn method_upward(&self, row: CellRow, place: usize) -> Option<usize>
         ensures { result ≡ method_upward self.now.source.text.now (contents self.now.source.outline.now) (declared self.now.declarations.now) row place }
     {
-        let line = self.declarations.lines.line(row.lineage);
         let name = self.source.name_at(place);
-        let found = nearest(line, row.number, |number| {
+        self.upward(row, |number| {
             method_of(&self.source, CellRow { number, ..row }, name)
-        });
-        found.map(|(_, method)| method)
+        })
     }
 
     // The field that is found upward from a type, if it is a row.
