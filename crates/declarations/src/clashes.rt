@@ -29,7 +29,7 @@ impl<'a> Source<'a> {
     fn names_relationship(&self, name: &[u8]) -> bool
         ensures { result ≡ relationship_name self.now.text.now (contents self.now.outline.now) name.now }
     {
-        name == b"Relation".as_slice() || self.place_among(Lineage::Relationship, name).is_some()
+        name == RELATION || self.place_among(Lineage::Relationship, name).is_some()
     }
 
     // Whether field i has the name of an earlier field of its row or one upward, or that of a relationship.
