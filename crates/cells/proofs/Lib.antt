@@ -1,4 +1,5 @@
 pub mod Digits
 pub mod Words
+pub mod Meeting
 pub mod Laws
 pub mod Renumbers

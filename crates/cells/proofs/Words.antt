@@ -1,13 +1,13 @@
 -- Membership word by word: inner lemmas of the sets' calls.
-use Rattle.std.proofs.Common.{◌≡◌, ℕ, ◌+◌, ◌-◌, ◌*◌, ◌%◌, ◌^◌, ◌<◌, ◌≤◌, Bool, true, false, not, ◌&&◌, ◌||◌, eqb, ltb, sym, refl, ap, ◌∙◌, ap₂, ⊎_elim, arith}
-use lib.Bits.{bit_and, bit_or}
+use Rattle.std.proofs.Common.{◌≡◌, ℕ, ◌+◌, ◌-◌, ◌*◌, ◌%◌, ◌^◌, ◌<◌, ◌≤◌, Bool, true, false, not, ◌&&◌, eqb, ltb, sym, refl, ap, ◌∙◌, ap₂, ⊎_elim, arith}
+use lib.Bits.{bit_and}
 use lib.Count.{ones}
-use Rattle.std.proofs.lemmas.Nat.{one_shl, or_lt, and_le_l, mod_below}
+use Rattle.std.proofs.lemmas.Nat.{one_shl}
 use Rattle.std.proofs.lemmas.Bool.{cases_lt, lt-ltb, le-ltb}
 use Rattle.std.proofs.lemmas.Bool.Decides.{nat_tests}
 use Rattle.cells.specs.declared.CellSet.{CellSet}
 use Rattle.cells.specs.Members.{bit, has, Words, counted}
-use Rattle.cells.proofs.Digits.{bit-bit_or, bit-bit_and, bit_not, bit_pow, counted_same, counted_add, ones_counted}
+use Rattle.cells.proofs.Digits.{bit-bit_and, bit_not, bit_pow, counted_same, counted_add, ones_counted}
 
 pub has_low : (s : CellSet) (k : ℕ) → k < 64 → has s k ≡ bit s.low k
 unfolding has
@@ -48,22 +48,16 @@ same_words s t low high = ap₂ (λ x y. made x y) low high
 pub one_bit : (c : ℕ) → c < 64 → (k : ℕ) → bit ((1 * 2 ^ c) % 2 ^ 64) k ≡ eqb c k
 one_bit c h k = ap (λ x. bit x k) (one_shl c 64 h) ∙ bit_pow c k
 
-pub or_fits : (a b : ℕ) → a < 2 ^ 64 → bit_or a ((1 * 2 ^ b) % 2 ^ 64) < 2 ^ 64
-or_fits a b h = or_lt 64 a ((1 * 2 ^ b) % 2 ^ 64) h (mod_below (1 * 2 ^ b) (2 ^ 64) (omega arith))
+-- a cell by its number alone
+pub eqb_cell : (c d : ℕ) → d < 128 → eqb c d ≡ (eqb c d && ltb d 128)
+eqb_cell c d l = grind (arith, nat_tests)
 
--- r is s with cell c put in, where its words are
-pub with_words : (s r : CellSet) (c : ℕ) → ((k : ℕ) → k < 64 → bit r.low k ≡ (bit s.low k || eqb c k))
-    → ((k : ℕ) → k < 64 → bit r.high k ≡ (bit s.high k || eqb c (64 + k))) → (d : ℕ) → has r d ≡ (has s d || (eqb c d && ltb d 128))
-with_words s r c low high =
-    by_words r (λ d. has s d || (eqb c d && ltb d 128))
-    (λ k l. low k l ∙ ap₂ (λ x y. x || y) (sym (has_low s k l)) (cell k (omega arith)))
-    (λ k l. high k l ∙ ap₂ (λ x y. x || y) (sym (has_high s k l)) (cell (64 + k) (omega arith)))
-    (λ d g. simp (has_past s d g) (past d g))
+-- r is the set of cell c alone, where its words are
+pub only_words : (r : CellSet) (c : ℕ) → ((k : ℕ) → k < 64 → bit r.low k ≡ eqb c k) → ((k : ℕ) → k < 64 → bit r.high k ≡ eqb c (64 + k))
+    → (d : ℕ) → has r d ≡ (eqb c d && ltb d 128)
+only_words r c low high = by_words r (λ d. eqb c d && ltb d 128) (λ k l. low k l ∙ eqb_cell c k (omega arith)) (λ k l. high k l ∙ eqb_cell c (64 + k) (omega arith)) past
   where
-    cell : (d : ℕ) → d < 128 → eqb c d ≡ (eqb c d && ltb d 128)
-    cell d l = grind (arith, nat_tests)
-
-    past : (d : ℕ) → 128 ≤ d → (false || (eqb c d && ltb d 128)) ≡ false
+    past : (d : ℕ) → 128 ≤ d → (eqb c d && ltb d 128) ≡ false
     past d g = grind (arith, nat_tests)
 
 -- r is s with cell c taken out, where its words are
@@ -75,27 +69,13 @@ without_words s r c low high =
     (λ k l. high k l ∙ ap (λ x. x && not (eqb c (64 + k))) (sym (has_high s k l)))
     (λ d g. simp (has_past s d g) refl)
 
--- one word with the bit of cell c set, and with it cleared
-pub bit_set : (a c : ℕ) → c < 64 → (k : ℕ) → bit (bit_or a ((1 * 2 ^ c) % 2 ^ 64)) k ≡ (bit a k || eqb c k)
-bit_set a c h k = bit-bit_or k a ((1 * 2 ^ c) % 2 ^ 64) ∙ ap (λ x. bit a k || x) (one_bit c h k)
-
-pub bit_cleared : (a c : ℕ) → c < 64 → (k : ℕ) → k < 64 → bit (bit_and a ((2 ^ 64 - 1) - (1 * 2 ^ c) % 2 ^ 64)) k ≡ (bit a k && not (eqb c k))
-bit_cleared a c h k l =
-    bit-bit_and k a ((2 ^ 64 - 1) - (1 * 2 ^ c) % 2 ^ 64)
-    ∙ ap (λ x. bit a k && x) (bit_not 64 ((1 * 2 ^ c) % 2 ^ 64) k (mod_below (1 * 2 ^ c) (2 ^ 64) (omega arith)) l ∙ ap not (one_bit c h k))
-
-pub or_apart : (b : Bool) (c d : ℕ) → (c ≡ d → ⊥) → b ≡ (b || eqb c d)
-or_apart b c d h = grind (arith, nat_tests)
-
-pub and_apart : (b : Bool) (c d : ℕ) → (c ≡ d → ⊥) → b ≡ (b && not (eqb c d))
-and_apart b c d h = grind (arith, nat_tests)
+-- one word without the bits of another
+pub bit_cleared : (a b : ℕ) (x : Bool) (k : ℕ) → k < 64 → b < 2 ^ 64 → bit b k ≡ x → bit (bit_and a ((2 ^ 64 - 1) - b)) k ≡ (bit a k && not x)
+bit_cleared a b x k l fits e = bit-bit_and k a ((2 ^ 64 - 1) - b) ∙ ap (λ y. bit a k && y) (bit_not 64 b k fits l ∙ ap not e)
 
 -- a cell above 63 by its place in the high word
 pub eqb_high : (c k : ℕ) → 64 ≤ c → eqb (c - 64) k ≡ eqb c (64 + k)
 eqb_high c k h = grind (arith, nat_tests)
-
-pub and_fits : (a b : ℕ) → a < 2 ^ 64 → bit_and a b < 2 ^ 64
-and_fits a b h = omega (arith, and_le_l a b)
 
 -- the number of members, word by word
 pub size_words : (s : CellSet) → Words s → ones s.low + ones s.high ≡ counted (has s) 128

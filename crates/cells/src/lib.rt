@@ -6,7 +6,7 @@ ghost use Rattle.cells.specs.Members.{has, none, Words, counted, Lowest, Renumbe
 
 // A set of cells. Every pair of words is a set, and two sets with the same members are equal.
 // A number above 127 is no cell: no set contains it, and putting it in or taking it out changes nothing.
-#[derive(Clone, Copy, PartialEq, Eq, Debug)]
+#[derive(Clone, Copy, PartialEq, Eq, Debug, Default)]
 pub struct CellSet {
     low: u64,
     high: u64,
@@ -22,17 +22,32 @@ impl CellSet {
         CellSet { low: 0, high: 0 }
     }
 
+    // The set of the cell alone; without members where the number is no cell.
+    fn only(cell: u8) -> CellSet
+        ensures members { (d : ℕ) → has result d ≡ (cell == d && nat_lt d 128) }
+        ensures words { Words result }
+    {
+        if cell < 64 {
+            CellSet {
+                low: 1 << cell,
+                high: 0,
+            }
+        } else if cell < 128 {
+            CellSet {
+                low: 0,
+                high: 1 << (cell - 64),
+            }
+        } else {
+            CellSet::empty()
+        }
+    }
+
     // Whether the cell is a member.
     pub fn contains(self, cell: u8) -> bool
         ensures { result ≡ has self cell }
     {
-        if cell < 64 {
-            (self.low >> cell) % 2 == 1
-        } else if cell < 128 {
-            (self.high >> (cell - 64)) % 2 == 1
-        } else {
-            false
-        }
+        let CellSet { low, high } = CellSet::only(cell);
+        self.low & low != 0 || self.high & high != 0
     }
 
     // The same members and this cell.
@@ -40,20 +55,7 @@ impl CellSet {
         ensures members { (d : ℕ) → has result d ≡ (has self d || (cell == d && nat_lt d 128)) }
         ensures words { Words result }
     {
-        let CellSet { low, high } = self;
-        if cell < 64 {
-            CellSet {
-                low: low | (1 << cell),
-                high,
-            }
-        } else if cell < 128 {
-            CellSet {
-                low,
-                high: high | (1 << (cell - 64)),
-            }
-        } else {
-            CellSet { low, high }
-        }
+        self.union(CellSet::only(cell))
     }
 
     // The same members but for this cell.
@@ -61,19 +63,10 @@ impl CellSet {
         ensures members { (d : ℕ) → has result d ≡ (has self d && not (cell == d)) }
         ensures words { Words result }
     {
-        let CellSet { low, high } = self;
-        if cell < 64 {
-            CellSet {
-                low: low & !(1 << cell),
-                high,
-            }
-        } else if cell < 128 {
-            CellSet {
-                low,
-                high: high & !(1 << (cell - 64)),
-            }
-        } else {
-            CellSet { low, high }
+        let CellSet { low, high } = CellSet::only(cell);
+        CellSet {
+            low: self.low & !low,
+            high: self.high & !high,
         }
     }
 
@@ -108,12 +101,12 @@ impl CellSet {
         (self.low.count_ones() + self.high.count_ones()) as u8
     }
 
-    // Whether the two sets have the same members; then they are equal.
+    // Whether the two sets have the same members; then they are equal, as the derived `==` tells.
     pub fn same_members(self, other: CellSet) -> bool
         ensures equal { result ≡ true → self ≡ other }
         ensures agree { ((d : ℕ) → has self d ≡ has other d) → result ≡ true }
     {
-        self.low == other.low && self.high == other.high
+        self == other
     }
 
     // The set of the members' new numbers: member c goes to table[c], or is dropped where that is above 127.
@@ -122,9 +115,9 @@ impl CellSet {
         ensures words { Words result }
     {
         let mut moved = CellSet::empty();
-        for c in 0..128u8 {
-            if self.contains(c) {
-                moved = moved.with(table[c as usize]);
+        for (c, new) in table.iter().enumerate() {
+            if self.contains(c as u8) {
+                moved = moved.with(*new);
             }
         }
         moved

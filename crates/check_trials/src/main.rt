@@ -4,76 +4,64 @@
 // tools/check_cases.py writes the lines and what is expected of them.
 #![tactic(auto)]
 
-use anyhow::anyhow;
+use anyhow::Context;
 use program::check::check;
 use program::code::Counts;
 use program::program::Program;
+use program::refusal::Refusal;
 use spelled_texts::spelled::decode;
-use std::alloc::{AllocError, Global};
+use std::fmt;
 use std::io::{BufRead, BufReader};
 
-fn line_of_counts(heap: Global, counts: Counts) -> Result<String, AllocError> {
-    let classes = counts.classes;
-    let relationships = counts.relationships;
-    let fields = counts.fields;
-    let methods = counts.methods;
-    let nodes = counts.nodes;
-    format!(in heap; "accepted {classes} {relationships} {fields} {methods} {nodes}")
+// What came of a text.
+#[derive(Clone, Copy)]
+struct Verdict {
+    answer: Result<Counts, Refusal>,
+    // a refused text changed the place
+    another_program: bool,
+    zero_scratch: bool,
 }
 
-fn all_zero(scratch: &[u16]) -> bool {
-    for entry in scratch {
-        if *entry != 0 {
-            return false;
+impl fmt::Display for Verdict {
+    fn fmt<W: fmt::Write>(&self, f: &mut fmt::Formatter<W>) -> fmt::Result {
+        match self.answer {
+            Ok(counts) => write!(f, "accepted {counts}")?,
+            Err(refusal) => write!(f, "{refusal}")?,
         }
+        if self.another_program {
+            write!(f, " and another program")?;
+        }
+        if !self.zero_scratch {
+            write!(f, " and a scratch that is not zero")?;
+        }
+        Ok(())
     }
-    true
 }
 
-// The line that is printed of a text.
-fn verdict(
-    heap: Global,
-    text: &[u8],
-    scratch: &mut [u16],
-    place: &mut Program,
-) -> Result<String, AllocError> {
+fn judged(text: &[u8], scratch: &mut [u16], place: &mut Program) -> Verdict {
     let before = place.counts();
-    match check(text, scratch, place) {
-        Ok(()) => line_of_counts(heap, place.counts()),
-        Err(refusal) => {
-            let number = refusal.number();
-            let at = refusal.place();
-            if before.nodes != place.counts().nodes {
-                return format!(in heap; "{number} {at} and another program");
-            }
-            format!(in heap; "{number} {at}")
-        }
+    let answer = check(text, scratch, place);
+    let after = place.counts();
+    Verdict {
+        answer: answer.map(|()| after),
+        another_program: answer.is_err() && before.nodes != after.nodes,
+        zero_scratch: scratch.iter().all(|entry| *entry == 0),
     }
 }
 
-fn judge_all(rt: &HostRuntime) -> anyhow::Result<()> {
+fn main(rt: HostRuntime) -> anyhow::Result<()> {
     let heap = rt.alloc();
     let mut place = Program::new();
     for line in BufReader::new(heap, rt.stdin())?.lines(heap) {
         let line = line?;
-        let Some((entries, spelled)) = line.as_str().split_once(' ') else {
-            return Err(anyhow!("a line without a number of entries"));
-        };
+        let (entries, spelled) = line
+            .as_str()
+            .split_once(' ')
+            .context("a line without a number of entries")?;
         let text = decode(heap, spelled)?;
-        let mut scratch = Vec::new(heap);
-        for _ in 0..entries.parse::<u32>()? {
-            scratch.push(7u16)?;
-        }
-        let verdict = verdict(heap, text.as_slice(), scratch.as_mut_slice(), &mut place)?;
-        if all_zero(scratch.as_slice()) {
-            println!(rt; "{verdict}")?;
-        } else {
-            println!(rt; "{verdict} and a scratch that is not zero")?;
-        }
+        let mut scratch = vec![in heap; 7u16; entries.parse()?]?;
+        let verdict = judged(text.as_slice(), scratch.as_mut_slice(), &mut place);
+        println!(rt; "{verdict}")?;
     }
     Ok(())
-}
-
-fn main(rt: HostRuntime) -> anyhow::Result<()> {
-    judge_all(&rt)
 }

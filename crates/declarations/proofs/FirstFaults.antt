@@ -1,5 +1,6 @@
 -- The answer of a check is the first fault.
-use Rattle.std.proofs.Common.{◌≡◌, ℕ, ◌<◌, ◌≤◌, min, Bool, true, false, not, ◌⊎◌, List, length, Some, None, Option, sym, refl, subst, inl, inr, le_refl, arith}
+use Rattle.std.proofs.Common.{◌≡◌, ℕ, ◌<◌, ◌≤◌, min, Bool, true, false, not, ◌⊎◌, List, length, Some, None, Ok, Err, Option, Result, sym, refl, subst, inl, inr, le_refl, arith}
+use Rattle.std.specs.Result.{result_err}
 use Rattle.std.proofs.lemmas.Bool.{both_ways, cases_lt}
 use Rattle.values.specs.declared.types.Lineage.TheVariants.{Class, Relationship}
 use Rattle.outline.specs.Contents.{Contents}
@@ -10,7 +11,7 @@ use Rattle.declarations.specs.declared.refusal.Misdeclared.TheVariants as refusa
 use Rattle.declarations.specs.Resolved.{Declared}
 use Rattle.declarations.specs.Naming.{fault_if, name_taken_place, first_taken, parent_missing_place, end_missing_place, field_type_missing_place, result_type_missing_place, variable_type_missing_place, first_missing}
 use Rattle.declarations.specs.Clashes.{field_clashes_place, method_twice_place, variable_twice_place, first_clash}
-use Rattle.declarations.specs.Misfits.{end_misfit_place, first_end_misfit, override_misfit_place, first_override_misfit}
+use Rattle.declarations.specs.Misfits.{first_end_misfit, first_override_misfit}
 use Rattle.declarations.specs.Counts.{main_stands, main_missing_place, too_many_fields_place, first_too_many}
 use Rattle.declarations.specs.Faults.{Fault, name_taken, parent_missing, end_missing, field_type_missing, result_type_missing, variable_type_missing, field_clashes, method_twice, variable_twice, end_misfit, override_misfit, main_missing, too_many_fields, Judged, number_of, place_of, refused_at, misdeclared_of}
 
@@ -116,27 +117,27 @@ module _ (text : List ℕ) (k : Contents) (d : Declared) where
 
   taken_holds : Holds (At 21) (first_taken text k)
   taken_holds =
-      holds_lesser (At 21) _ _ (holds_least (At 21) (name_taken_place text k Class) (length k.classes) (λ i p h e. name_taken Class h e)) (holds_least (At 21) (name_taken_place text k Relationship) (length k.relationships) (λ i p h e. name_taken Relationship h e))
+      holds_lesser (At 21) _ _ (holds_least (At 21) _ _ (λ i p h e. name_taken Class h e)) (holds_least (At 21) _ _ (λ i p h e. name_taken Relationship h e))
 
   missing_holds : Holds (At 22) (first_missing text k)
   missing_holds =
-      holds_lesser (At 22) _ _ (holds_least (At 22) (parent_missing_place text k Class) (length k.classes) (λ i p h e. parent_missing Class h e)) (holds_lesser (At 22) _ _ (holds_least (At 22) (parent_missing_place text k Relationship) (length k.relationships) (λ i p h e. parent_missing Relationship h e)) (holds_lesser (At 22) _ _ (holds_least (At 22) (end_missing_place text k) (length k.relationships) (λ i p h e. end_missing h e)) (holds_lesser (At 22) _ _ (holds_least (At 22) (field_type_missing_place text k) (length k.fields) (λ i p h e. field_type_missing h e)) (holds_lesser (At 22) _ _ (holds_least (At 22) (result_type_missing_place text k) (length k.methods) (λ i p h e. result_type_missing h e)) (holds_least (At 22) (variable_type_missing_place text k) (length k.variables) (λ i p h e. variable_type_missing h e))))))
+      holds_lesser (At 22) _ _ (holds_least (At 22) _ _ (λ i p h e. parent_missing Class h e)) (holds_lesser (At 22) _ _ (holds_least (At 22) _ _ (λ i p h e. parent_missing Relationship h e)) (holds_lesser (At 22) _ _ (holds_least (At 22) _ _ (λ i p h e. end_missing h e)) (holds_lesser (At 22) _ _ (holds_least (At 22) _ _ (λ i p h e. field_type_missing h e)) (holds_lesser (At 22) _ _ (holds_least (At 22) _ _ (λ i p h e. result_type_missing h e)) (holds_least (At 22) _ _ (λ i p h e. variable_type_missing h e))))))
 
   clash_holds : Holds (At 23) (first_clash text k d.ancestry)
   clash_holds =
-      holds_lesser (At 23) _ _ (holds_least (At 23) (field_clashes_place text k d.ancestry) (length k.fields) (λ i p h e. field_clashes h e)) (holds_lesser (At 23) _ _ (holds_least (At 23) (method_twice_place text k) (length k.methods) (λ i p h e. method_twice h e)) (holds_least (At 23) (variable_twice_place text k) (length k.variables) (λ i p h e. variable_twice h e)))
+      holds_lesser (At 23) _ _ (holds_least (At 23) _ _ (λ i p h e. field_clashes h e)) (holds_lesser (At 23) _ _ (holds_least (At 23) _ _ (λ i p h e. method_twice h e)) (holds_least (At 23) _ _ (λ i p h e. variable_twice h e)))
 
   end_holds : Holds (At 24) (first_end_misfit k d)
   end_holds =
-      holds_least (At 24) (end_misfit_place k d) (length k.relationships) (λ i p h e. end_misfit h e)
+      holds_least (At 24) _ _ (λ i p h e. end_misfit h e)
 
   override_holds : Holds (At 25) (first_override_misfit text k d)
   override_holds =
-      holds_least (At 25) (override_misfit_place text k d) (length k.methods) (λ i p h e. override_misfit h e)
+      holds_least (At 25) _ _ (λ i p h e. override_misfit h e)
 
   many_holds : Holds (At 27) (first_too_many k d.ancestry)
   many_holds =
-      holds_lesser (At 27) _ _ (holds_least (At 27) (too_many_fields_place k d.ancestry Class) (length k.classes) (λ i p h e. too_many_fields Class h e)) (holds_least (At 27) (too_many_fields_place k d.ancestry Relationship) (length k.relationships) (λ i p h e. too_many_fields Relationship h e))
+      holds_lesser (At 27) _ _ (holds_least (At 27) _ _ (λ i p h e. too_many_fields Class h e)) (holds_least (At 27) _ _ (λ i p h e. too_many_fields Relationship h e))
 
   sound : Sound (misdeclared_of text k d)
   unfolding misdeclared_of
@@ -246,26 +247,26 @@ module _ (text : List ℕ) (k : Contents) (d : Declared) where
   least_too_many_fields_relationship = least_below (too_many_fields_place k d.ancestry Relationship) (length k.relationships)
 
   before : (n q : ℕ) → Fault text k d n q → Before (misdeclared_of text k d) n q
-  before n q (name_taken Class h e) = taken_first q (low_left least_name_taken_class least_name_taken_relationship q (low_least (name_taken_place text k Class) (length k.classes) _ q h e))
-  before n q (name_taken Relationship h e) = taken_first q (low_right least_name_taken_class least_name_taken_relationship q (low_least (name_taken_place text k Relationship) (length k.relationships) _ q h e))
-  before n q (parent_missing Class h e) = missing_first q (low_left least_parent_missing_class missing_after_1 q (low_least (parent_missing_place text k Class) (length k.classes) _ q h e))
-  before n q (parent_missing Relationship h e) = missing_first q (low_right least_parent_missing_class missing_after_1 q (low_left least_parent_missing_relationship missing_after_2 q (low_least (parent_missing_place text k Relationship) (length k.relationships) _ q h e)))
-  before n q (end_missing h e) = missing_first q (low_right least_parent_missing_class missing_after_1 q (low_right least_parent_missing_relationship missing_after_2 q (low_left least_end_missing missing_after_3 q (low_least (end_missing_place text k) (length k.relationships) _ q h e))))
-  before n q (field_type_missing h e) = missing_first q (low_right least_parent_missing_class missing_after_1 q (low_right least_parent_missing_relationship missing_after_2 q (low_right least_end_missing missing_after_3 q (low_left least_field_type_missing missing_after_4 q (low_least (field_type_missing_place text k) (length k.fields) _ q h e)))))
-  before n q (result_type_missing h e) = missing_first q (low_right least_parent_missing_class missing_after_1 q (low_right least_parent_missing_relationship missing_after_2 q (low_right least_end_missing missing_after_3 q (low_right least_field_type_missing missing_after_4 q (low_left least_result_type_missing least_variable_type_missing q (low_least (result_type_missing_place text k) (length k.methods) _ q h e))))))
-  before n q (variable_type_missing h e) = missing_first q (low_right least_parent_missing_class missing_after_1 q (low_right least_parent_missing_relationship missing_after_2 q (low_right least_end_missing missing_after_3 q (low_right least_field_type_missing missing_after_4 q (low_right least_result_type_missing least_variable_type_missing q (low_least (variable_type_missing_place text k) (length k.variables) _ q h e))))))
-  before n q (field_clashes h e) = clash_first q (low_left least_field_clashes clash_after_1 q (low_least (field_clashes_place text k d.ancestry) (length k.fields) _ q h e))
-  before n q (method_twice h e) = clash_first q (low_right least_field_clashes clash_after_1 q (low_left least_method_twice least_variable_twice q (low_least (method_twice_place text k) (length k.methods) _ q h e)))
-  before n q (variable_twice h e) = clash_first q (low_right least_field_clashes clash_after_1 q (low_right least_method_twice least_variable_twice q (low_least (variable_twice_place text k) (length k.variables) _ q h e)))
-  before n q (end_misfit h e) = end_first q (low_least (end_misfit_place k d) (length k.relationships) _ q h e)
-  before n q (override_misfit h e) = override_first q (low_least (override_misfit_place text k d) (length k.methods) _ q h e)
+  before n q (name_taken Class h e) = taken_first q (low_left least_name_taken_class least_name_taken_relationship q (low_least _ _ _ q h e))
+  before n q (name_taken Relationship h e) = taken_first q (low_right least_name_taken_class least_name_taken_relationship q (low_least _ _ _ q h e))
+  before n q (parent_missing Class h e) = missing_first q (low_left least_parent_missing_class missing_after_1 q (low_least _ _ _ q h e))
+  before n q (parent_missing Relationship h e) = missing_first q (low_right least_parent_missing_class missing_after_1 q (low_left least_parent_missing_relationship missing_after_2 q (low_least _ _ _ q h e)))
+  before n q (end_missing h e) = missing_first q (low_right least_parent_missing_class missing_after_1 q (low_right least_parent_missing_relationship missing_after_2 q (low_left least_end_missing missing_after_3 q (low_least _ _ _ q h e))))
+  before n q (field_type_missing h e) = missing_first q (low_right least_parent_missing_class missing_after_1 q (low_right least_parent_missing_relationship missing_after_2 q (low_right least_end_missing missing_after_3 q (low_left least_field_type_missing missing_after_4 q (low_least _ _ _ q h e)))))
+  before n q (result_type_missing h e) = missing_first q (low_right least_parent_missing_class missing_after_1 q (low_right least_parent_missing_relationship missing_after_2 q (low_right least_end_missing missing_after_3 q (low_right least_field_type_missing missing_after_4 q (low_left least_result_type_missing least_variable_type_missing q (low_least _ _ _ q h e))))))
+  before n q (variable_type_missing h e) = missing_first q (low_right least_parent_missing_class missing_after_1 q (low_right least_parent_missing_relationship missing_after_2 q (low_right least_end_missing missing_after_3 q (low_right least_field_type_missing missing_after_4 q (low_right least_result_type_missing least_variable_type_missing q (low_least _ _ _ q h e))))))
+  before n q (field_clashes h e) = clash_first q (low_left least_field_clashes clash_after_1 q (low_least _ _ _ q h e))
+  before n q (method_twice h e) = clash_first q (low_right least_field_clashes clash_after_1 q (low_left least_method_twice least_variable_twice q (low_least _ _ _ q h e)))
+  before n q (variable_twice h e) = clash_first q (low_right least_field_clashes clash_after_1 q (low_right least_method_twice least_variable_twice q (low_least _ _ _ q h e)))
+  before n q (end_misfit h e) = end_first q (low_least _ _ _ q h e)
+  before n q (override_misfit h e) = override_first q (low_least _ _ _ q h e)
   before n q (main_missing e) = main_first (main_low (main_stands text k d) e)
-  before n q (too_many_fields Class h e) = many_first q (low_left least_too_many_fields_class least_too_many_fields_relationship q (low_least (too_many_fields_place k d.ancestry Class) (length k.classes) _ q h e))
-  before n q (too_many_fields Relationship h e) = many_first q (low_right least_too_many_fields_class least_too_many_fields_relationship q (low_least (too_many_fields_place k d.ancestry Relationship) (length k.relationships) _ q h e))
+  before n q (too_many_fields Class h e) = many_first q (low_left least_too_many_fields_class least_too_many_fields_relationship q (low_least _ _ _ q h e))
+  before n q (too_many_fields Relationship h e) = many_first q (low_right least_too_many_fields_class least_too_many_fields_relationship q (low_least _ _ _ q h e))
 
-  judge : (r : Option Misdeclared) → Sound r → ((n q : ℕ) → Fault text k d n q → Before r n q) → Judged text k d r
-  judge None s b = record { none = b }
-  judge (Some m) s b = record { fault = s; first = b }
+  judge : (r : Result (Unit {0}) Misdeclared) → Sound (result_err r) → ((n q : ℕ) → Fault text k d n q → Before (result_err r) n q) → Judged text k d r
+  judge (Ok u) s b = record { none = b }
+  judge (Err m) s b = record { fault = s; first = b }
 
-  pub judged : (r : Option Misdeclared) → r ≡ misdeclared_of text k d → Judged text k d r
-  judged r e = subst (Judged text k d) (sym e) (judge (misdeclared_of text k d) sound before)
+  pub judged : (r : Result (Unit {0}) Misdeclared) → result_err r ≡ misdeclared_of text k d → Judged text k d r
+  judged r e = judge r (subst Sound (sym e) sound) (λ n q h. subst (λ o. Before o n q) (sym e) (before n q h))

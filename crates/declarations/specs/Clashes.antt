@@ -7,7 +7,8 @@ use Rattle.values.specs.declared.types.CellRow.{CellRow}
 use Rattle.values.specs.Fits.{Ancestry}
 use Rattle.outline.specs.Contents.{Contents}
 use Rattle.tables.specs.Below.{any_below, lesser, least_below}
-use Rattle.declarations.specs.Rows.{given, holds, row_is}
+use Rattle.tables.specs.Items.{given, holds}
+use Rattle.declarations.specs.Rows.{row_is}
 use Rattle.declarations.specs.Descending.{same_row, upward}
 use Rattle.declarations.specs.Naming.{fault_if}
 

@@ -10,7 +10,8 @@ use Rattle.values.specs.declared.types.CellRow.{CellRow}
 use Rattle.values.specs.Fits.{Ancestry, same_lineage}
 use Rattle.outline.specs.Contents.{Contents}
 use Rattle.tables.specs.Below.{first_below, count_below, lesser, least_below}
-use Rattle.declarations.specs.Rows.{row, rows_of, given, holds}
+use Rattle.tables.specs.Items.{given, holds}
+use Rattle.declarations.specs.Rows.{row, rows_of}
 use Rattle.declarations.specs.Resolved.{Declared}
 use Rattle.declarations.specs.Descending.{same_row, upward}
 use Rattle.declarations.specs.Naming.{fault_if}

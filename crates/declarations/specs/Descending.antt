@@ -1,14 +1,9 @@
 -- Rows of the lines of descent.
 use Rattle.std.specs.Prelude.{ℕ, Bool, cond, ◌&&◌, List, length, Some, None, Option, ◌==◌, nat_lt, slice_index}
 use Rattle.descent.specs.Descent.{descends_to}
-use Rattle.values.specs.declared.types.Lineage.{Lineage}
-use Rattle.values.specs.declared.types.Lineage.TheVariants.{Class, Relationship}
 use Rattle.values.specs.declared.types.CellRow.{CellRow}
 use Rattle.values.specs.Fits.{Ancestry, same_lineage}
-
-abbrev pub line_in : Ancestry → Lineage → List ℕ
-line_in a Class = a.classes
-line_in a Relationship = a.relationships
+pub use Rattle.values.specs.Fits.{line_in}
 
 -- the parent of a row that is there and is no root
 abbrev pub parent_row : List ℕ → ℕ → Option ℕ

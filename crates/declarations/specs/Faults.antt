@@ -1,5 +1,5 @@
 -- The refusal of declarations: each fault with its number and its place, and the first of them.
-use Rattle.std.specs.Prelude.{◌≡◌, ℕ, ◌<◌, ◌≤◌, false, ◌⊎◌, List, length, Some, None, Option}
+use Rattle.std.specs.Prelude.{◌≡◌, ℕ, ◌<◌, ◌≤◌, false, ◌⊎◌, List, length, Some, None, Ok, Err, Option, Result}
 use Rattle.values.specs.declared.types.Lineage.{Lineage}
 use Rattle.outline.specs.Contents.{Contents}
 use Rattle.declarations.specs.declared.refusal.Misdeclared.{Misdeclared}
@@ -68,7 +68,7 @@ pub record FirstFault (text : List ℕ) (k : Contents) (d : Declared) (n p : ℕ
   pub fault : Fault text k d n p
   pub first : (m q : ℕ) → Fault text k d m q → (n < m) ⊎ ((n ≡ m) × (p ≤ q))
 
--- the answer of a check: none exactly where there is no fault, else the first
-abbrev pub Judged : List ℕ → Contents → Declared → Option Misdeclared → Type 0
-Judged text k d None = Faultless text k d
-Judged text k d (Some m) = FirstFault text k d (number_of m) (place_of m)
+-- the answer of a check: it accepts exactly where there is no fault, else it tells the first
+abbrev pub Judged : List ℕ → Contents → Declared → Result (Unit {0}) Misdeclared → Type 0
+Judged text k d (Ok u) = Faultless text k d
+Judged text k d (Err m) = FirstFault text k d (number_of m) (place_of m)

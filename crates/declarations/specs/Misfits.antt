@@ -11,7 +11,8 @@ use Rattle.outline.specs.Contents.{Contents}
 use Rattle.tables.specs.Below.{first_below, lesser, least_below}
 use Rattle.declarations.specs.declared.declarations.Ends.{Ends}
 use Rattle.declarations.specs.declared.declarations.Signature.{Signature}
-use Rattle.declarations.specs.Rows.{row, given}
+use Rattle.tables.specs.Items.{given}
+use Rattle.declarations.specs.Rows.{row}
 use Rattle.declarations.specs.Resolved.{Declared}
 use Rattle.declarations.specs.Descending.{line_in, parent_row}
 use Rattle.declarations.specs.Naming.{fault_if}

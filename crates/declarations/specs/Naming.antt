@@ -10,7 +10,8 @@ use Rattle.values.specs.declared.types.Lineage.TheVariants.{Class, Relationship}
 use Rattle.outline.specs.declared.entry.Row.{Row}
 use Rattle.outline.specs.Contents.{Contents}
 use Rattle.tables.specs.Below.{any_below, lesser, least_below}
-use Rattle.declarations.specs.Rows.{rows_of, given, holds, row_named}
+use Rattle.tables.specs.Items.{given, holds}
+use Rattle.declarations.specs.Rows.{rows_of, row_named}
 use Rattle.declarations.specs.Resolved.{parent_of}
 
 -- a fault at place p, where the test says so

@@ -16,7 +16,8 @@ use Rattle.tables.specs.Listed.{listed}
 use Rattle.declarations.specs.declared.declarations.Ends.{Ends}
 use Rattle.declarations.specs.declared.declarations.Signature.{Signature}
 use Rattle.declarations.specs.declared.declarations.Declarations.{Declarations}
-use Rattle.declarations.specs.Rows.{row, rows_of, given, holds, row_named, type_named}
+use Rattle.tables.specs.Items.{given, holds}
+use Rattle.declarations.specs.Rows.{row, rows_of, row_named, type_named}
 
 -- the lines of descent; the ends of each relationship row, the root's first; the types of all fields, methods and
 -- variables, in the order of the text

@@ -1,5 +1,5 @@
 -- What a name means as a row, and a written type as a type.
-use Rattle.std.specs.Prelude.{ℕ, ◌+◌, Bool, false, cond, List, length, Some, None, codes, Option}
+use Rattle.std.specs.Prelude.{ℕ, ◌+◌, Bool, cond, List, length, Some, None, codes, Option}
 use Rattle.std.specs.List.{slice_get}
 use Rattle.std.specs.Str.{bytes_eq}
 use Rattle.words.specs.Names.{name_at, is_name}
@@ -13,6 +13,7 @@ use Rattle.values.specs.Types.{boolean, row_type, set_type}
 use Rattle.outline.specs.declared.entry.Row.{Row}
 use Rattle.outline.specs.Contents.{Contents}
 use Rattle.tables.specs.Below.{first_below, or_else}
+use Rattle.tables.specs.Items.{holds}
 
 -- row n of a line
 abbrev pub row : Lineage → ℕ → CellRow
@@ -22,15 +23,6 @@ row l n = record { lineage = l; number = n }
 abbrev pub rows_of : Contents → Lineage → List Row
 rows_of k Class = k.classes
 rows_of k Relationship = k.relationships
-
--- what f makes of the item; y where there is none
-abbrev pub given : {X Y : Type 0} → Option X → Y → (X → Y) → Y
-given None y f = y
-given (Some x) y f = f x
-
--- there is such an item, and it passes
-abbrev pub holds : {X : Type 0} → Option X → (X → Bool) → Bool
-holds o f = given o false f
 
 -- the declared row at place i of its table has the name
 abbrev pub row_is : List ℕ → List Row → List ℕ → ℕ → Bool

@@ -1,182 +1,121 @@
-ghost use Rattle.std.specs.Prelude.{◌≡◌, length};
+ghost use Rattle.std.specs.Prelude.{◌≡◌, codes, count_by, length, position};
+ghost use Rattle.words.specs.Names.{is_name};
+ghost use Rattle.values.specs.declared.types.Lineage.TheVariants.{Class};
+ghost use Rattle.values.specs.Fits.{same_lineage};
 ghost use Rattle.values.specs.Lines.{ancestry};
 ghost use Rattle.outline.specs.Contents.{contents};
 ghost use Rattle.tables.specs.Below.{least_below};
 ghost use Rattle.declarations.specs.Rows.{rows_of};
 ghost use Rattle.declarations.specs.Resolved.{declared};
-ghost use Rattle.declarations.specs.Counts.{is_main, is_boolean, can_start, main_stands, main_missing_place, counts_for, field_counts, too_many_fields_place, first_too_many};
+ghost use Rattle.declarations.specs.Counts.{is_boolean, can_start, main_stands, counts_for, too_many_fields_place, first_too_many};
 
-use crate::declarations::Declarations;
-use crate::descending::{same_row, upward};
-use crate::naming::fault_if;
-use crate::parents::same_lineage;
-use crate::rows::rows_of;
+use crate::declarations::{Declarations, Signature};
+use crate::descending::upward;
+use crate::source::Source;
 use outline::contents::Outline;
-use tables::search::{Places, Test, count, first, least, lesser_of};
+use outline::entry::Method;
+use tables::search::lesser_of;
 use values::lines::Lines;
 use values::types::{CellRow, Kind, Lineage};
-use words::names::spells;
 
 // The most fields that a row may have.
 const MOST_FIELDS: usize = 8;
 
-// The methods named main.
-#[derive(Drop)]
-struct Mains<'a> {
-    text: &'a [u8],
-    outline: &'a Outline,
-}
-
-impl<'a> Test for Mains<'a> {
-    ghost passes = { λ s i. is_main s.text.now (contents s.outline.now) i };
-
-    fn passes_at(&self, i: usize) -> bool {
-        match self.outline.methods.get(i) {
-            None => false,
-            Some(method) => spells(self.text, method.name, b"main"),
-        }
-    }
-}
-
-fn is_boolean(kind: Kind) -> bool
-    ensures { result ≡ is_boolean kind }
+// Whether the method is declared in a class.
+#[tactic(auto, using(crate::proofs::Same::lineage_is))]
+fn is_of_class(method: Method) -> bool
+    ensures { result ≡ same_lineage method.owner.lineage Class }
 {
-    match kind {
-        Kind::Boolean => true,
-        _ => false,
-    }
+    method.owner.lineage == Lineage::Class
 }
 
-// Whether the method is declared in a class, and its parameter is boolean.
+#[tactic(auto, using(crate::proofs::Same::boolean_is))]
+fn takes_boolean(signature: Signature) -> bool
+    ensures { result ≡ is_boolean signature.parameter.kind }
+{
+    signature.parameter.kind() == Kind::Boolean
+}
+
+// Whether method i is declared in a class, and its parameter is boolean.
 fn can_start(outline: &Outline, declarations: &Declarations, i: usize) -> bool
     ensures { result ≡ can_start (contents outline.now) (declared declarations.now) i }
 {
-    let in_class = match outline.methods.get(i) {
-        None => false,
-        Some(method) => same_lineage(method.owner.lineage, Lineage::Class),
-    };
-    let takes_boolean = match declarations.methods.get(i) {
-        None => false,
-        Some(signature) => is_boolean(signature.parameter.kind()),
-    };
-    in_class && takes_boolean
-}
-
-// Whether just one method is named main, and it can start.
-fn main_stands<'a>(text: &'a [u8], outline: &'a Outline, declarations: &'a Declarations) -> bool
-    ensures { result ≡ main_stands text.now (contents outline.now) (declared declarations.now) }
-{
-    let mains = Mains { text, outline };
-    if count(&mains, outline.methods.len()) != 1 {
-        return false;
-    }
-    match first(&mains, outline.methods.len()) {
-        None => false,
-        Some(i) => can_start(outline, declarations, i),
-    }
-}
-
-// The text's start, where there is no proper main.
-pub(crate) fn main_missing<'a>(
-    text: &'a [u8],
-    outline: &'a Outline,
-    declarations: &'a Declarations,
-) -> Option<usize>
-    ensures { result ≡ main_missing_place text.now (contents outline.now) (declared declarations.now) }
-{
-    fault_if(!main_stands(text, outline, declarations), 0)
+    outline.methods.get(i).is_some_and(is_of_class)
+        && declarations.methods.get(i).is_some_and(takes_boolean)
 }
 
 // Whether row n of a line counts a field of the owner as its own.
+#[tactic(auto, using(crate::proofs::Same::row_is))]
 fn counts_for(lines: &Lines, lineage: Lineage, n: u8, owner: CellRow) -> bool
     ensures { result ≡ counts_for (ancestry lines.now) lineage n owner }
 {
+    let row = CellRow { lineage, number: n };
     match lineage {
-        Lineage::Class => upward(
-            lines,
-            CellRow {
-                lineage: Lineage::Class,
-                number: n,
-            },
-            owner,
-        ),
-        Lineage::Relationship => same_row(
-            CellRow {
-                lineage: Lineage::Relationship,
-                number: n,
-            },
-            owner,
-        ),
+        Lineage::Class => upward(lines, row, owner),
+        Lineage::Relationship => row == owner,
     }
 }
 
-// The fields that a row counts.
-#[derive(Drop)]
-struct FieldsCounted<'a> {
-    outline: &'a Outline,
-    lines: &'a Lines,
-    lineage: Lineage,
-    row: u8,
-}
-
-impl<'a> Test for FieldsCounted<'a> {
-    ghost passes = { λ s j. field_counts (contents s.outline.now) (ancestry s.lines.now) s.lineage s.row j };
-
-    fn passes_at(&self, i: usize) -> bool {
-        match self.outline.fields.get(i) {
-            None => false,
-            Some(field) => counts_for(self.lines, self.lineage, self.row, field.owner),
-        }
+impl<'a> Source<'a> {
+    // How many methods are named main.
+    fn mains(&self) -> usize
+        ensures { result ≡ count_by (λ (m : _). is_name self.now.text.now m.name (codes "main")) (contents self.now.outline.now).methods }
+    {
+        let methods = self.outline.methods.as_slice();
+        methods
+            .iter()
+            .filter(|method| self.spells(method.name, b"main"))
+            .count()
     }
-}
 
-// The rows of a line with too many fields.
-#[derive(Drop)]
-struct TooMany<'a> {
-    outline: &'a Outline,
-    lines: &'a Lines,
-    lineage: Lineage,
-}
-
-impl<'a> Places for TooMany<'a> {
-    ghost place = { λ s i. too_many_fields_place (contents s.outline.now) (ancestry s.lines.now) s.lineage i };
-
-    fn place_at(&self, i: usize) -> Option<usize> {
-        match rows_of(self.outline, self.lineage).get(i) {
-            None => None,
-            Some(row) => {
-                let counted = FieldsCounted {
-                    outline: self.outline,
-                    lines: self.lines,
-                    lineage: self.lineage,
-                    row: (i + 1) as u8,
-                };
-                fault_if(
-                    count(&counted, self.outline.fields.len()) > MOST_FIELDS,
-                    row.name,
-                )
-            }
-        }
+    // The first method named main.
+    fn first_main(&self) -> Option<usize>
+        ensures { result ≡ position (λ (m : _). is_name self.now.text.now m.name (codes "main")) (contents self.now.outline.now).methods }
+    {
+        let methods = self.outline.methods.as_slice();
+        methods
+            .iter()
+            .position(|method| self.spells(method.name, b"main"))
     }
-}
 
-fn first_too_many_of<'a>(outline: &'a Outline, lines: &'a Lines, lineage: Lineage) -> Option<usize>
-    ensures { result ≡ least_below (too_many_fields_place (contents outline.now) (ancestry lines.now) lineage) (length (rows_of (contents outline.now) lineage)) }
-{
-    let rows = TooMany {
-        outline,
-        lines,
-        lineage,
-    };
-    least(&rows, rows_of(outline, lineage).len())
-}
+    // Whether just one method is named main, and it can start.
+    #[tactic(auto, using(tables::proofs::Chains::count_all, tables::proofs::Chains::position_all))]
+    pub(crate) fn main_stands(&self, declarations: &Declarations) -> bool
+        ensures { result ≡ main_stands self.now.text.now (contents self.now.outline.now) (declared declarations.now) }
+    {
+        let starts = |i| can_start(self.outline, declarations, i);
+        self.mains() == 1 && self.first_main().is_some_and(starts)
+    }
 
-// The place of the first row with too many fields.
-pub(crate) fn first_too_many<'a>(outline: &'a Outline, lines: &'a Lines) -> Option<usize>
-    ensures { result ≡ first_too_many (contents outline.now) (ancestry lines.now) }
-{
-    lesser_of(
-        first_too_many_of(outline, lines, Lineage::Class),
-        first_too_many_of(outline, lines, Lineage::Relationship),
-    )
+    // How many fields row n of a line counts.
+    fn fields_counted(&self, lines: &Lines, lineage: Lineage, n: u8) -> usize
+        ensures { result ≡ count_by (λ (f : _). counts_for (ancestry lines.now) lineage n f.owner) (contents self.now.outline.now).fields }
+    {
+        let fields = self.outline.fields.as_slice();
+        fields
+            .iter()
+            .filter(|field| counts_for(lines, lineage, n, field.owner))
+            .count()
+    }
+
+    // The place of the first row of a line with too many fields.
+    #[tactic(auto, using(tables::proofs::Chains::count_all, crate::proofs::Within::row_few))]
+    fn first_too_many_of(&self, lines: &Lines, lineage: Lineage) -> Option<usize>
+        ensures { result ≡ least_below (too_many_fields_place (contents self.now.outline.now) (ancestry lines.now) lineage) (length (rows_of (contents self.now.outline.now) lineage)) }
+    {
+        self.rows(lineage).least(|i, row| {
+            let counted = self.fields_counted(lines, lineage, i as u8 + 1);
+            (counted > MOST_FIELDS).then_some(row.name)
+        })
+    }
+
+    // The place of the first row with too many fields.
+    pub(crate) fn first_too_many(&self, lines: &Lines) -> Option<usize>
+        ensures { result ≡ first_too_many (contents self.now.outline.now) (ancestry lines.now) }
+    {
+        lesser_of(
+            self.first_too_many_of(lines, Lineage::Class),
+            self.first_too_many_of(lines, Lineage::Relationship),
+        )
+    }
 }

@@ -3,14 +3,14 @@ use values::lines::Lines;
 use values::types::{CellRow, Ty};
 
 // The rows at the ends of a relationship.
-#[derive(Clone, Copy)]
+#[derive(Clone, Copy, Default)]
 pub struct Ends {
     pub first: CellRow,
     pub second: CellRow,
 }
 
 // The types of a method's result and of its parameter.
-#[derive(Clone, Copy)]
+#[derive(Clone, Copy, Default)]
 pub struct Signature {
     pub result: Ty,
     pub parameter: Ty,

@@ -1,56 +1,49 @@
 ghost use Rattle.std.specs.Prelude.{◌≡◌};
+ghost use Rattle.std.specs.Result.{result_err};
 ghost use Rattle.outline.specs.Contents.{contents};
 ghost use Rattle.declarations.specs.Faults.{misdeclared_of, Judged};
 ghost use Rattle.declarations.specs.Resolved.{declared};
 
-use crate::clashes::first_clash;
-use crate::counts::{first_too_many, main_missing};
 use crate::declarations::Declarations;
-use crate::misfits::{first_end_misfit, first_override_misfit};
-use crate::missing::first_missing;
-use crate::naming::first_taken;
 use crate::refusal::Misdeclared;
-use outline::contents::Outline;
+use crate::source::Source;
 
-fn first_of<'a>(
-    text: &'a [u8],
-    outline: &'a Outline,
-    declarations: &'a Declarations,
-) -> Option<Misdeclared>
-    ensures { result ≡ misdeclared_of text.now (contents outline.now) (declared declarations.now) }
+// Refuses, where there is a refusal.
+fn refuse(refusal: Option<Misdeclared>) -> Result<(), Misdeclared>
+    ensures { result_err result ≡ refusal }
 {
-    if let Some(place) = first_taken(text, outline) {
-        return Some(Misdeclared::NameTaken(place));
-    }
-    if let Some(place) = first_missing(text, outline) {
-        return Some(Misdeclared::NotDeclared(place));
-    }
-    if let Some(place) = first_clash(text, outline, &declarations.lines) {
-        return Some(Misdeclared::Clash(place));
-    }
-    if let Some(place) = first_end_misfit(outline, declarations) {
-        return Some(Misdeclared::EndMisfit(place));
-    }
-    if let Some(place) = first_override_misfit(text, outline, declarations) {
-        return Some(Misdeclared::OverrideMisfit(place));
-    }
-    if let Some(_) = main_missing(text, outline, declarations) {
-        return Some(Misdeclared::NoMain);
-    }
-    if let Some(place) = first_too_many(outline, &declarations.lines) {
-        return Some(Misdeclared::TooManyFields(place));
-    }
-    None
+    refusal.map_or(Ok(()), Err)
 }
 
-// The first kind of fault that occurs, at its first place.
-pub fn misdeclared<'a>(
-    text: &'a [u8],
-    outline: &'a Outline,
-    declarations: &'a Declarations,
-) -> Option<Misdeclared>
-    ensures same { result ≡ misdeclared_of text.now (contents outline.now) (declared declarations.now) }
-    ensures first { Judged text.now (contents outline.now) (declared declarations.now) result }
-{
-    first_of(text, outline, declarations)
+impl<'a> Source<'a> {
+    // The first kind of fault that occurs, at its first place.
+    #[tactic(auto, unfolding(crate::specs::Faults::misdeclared_of))]
+    fn refuse_faults(&self, declarations: &Declarations) -> Result<(), Misdeclared>
+        ensures { result_err result ≡ misdeclared_of self.now.text.now (contents self.now.outline.now) (declared declarations.now) }
+    {
+        let lines = &declarations.lines;
+        refuse(self.first_taken().map(Misdeclared::NameTaken))?;
+        refuse(self.first_missing().map(Misdeclared::NotDeclared))?;
+        refuse(self.first_clash(lines).map(Misdeclared::Clash))?;
+        refuse(
+            self.first_end_misfit(declarations)
+                .map(Misdeclared::EndMisfit),
+        )?;
+        refuse(
+            self.first_override_misfit(declarations)
+                .map(Misdeclared::OverrideMisfit),
+        )?;
+        if !self.main_stands(declarations) {
+            return Err(Misdeclared::NoMain);
+        }
+        refuse(self.first_too_many(lines).map(Misdeclared::TooManyFields))
+    }
+
+    // Whether the declarations have no fault; else the first kind of fault that occurs, at its first place.
+    pub fn judge_declarations(&self, declarations: &Declarations) -> Result<(), Misdeclared>
+        ensures same { result_err result ≡ misdeclared_of self.now.text.now (contents self.now.outline.now) (declared declarations.now) }
+        ensures first { Judged self.now.text.now (contents self.now.outline.now) (declared declarations.now) result }
+    {
+        self.refuse_faults(declarations)
+    }
 }

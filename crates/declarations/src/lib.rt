@@ -1,7 +1,7 @@
 // What a text declares, with its names resolved, and the faults of its declarations.
 #![tactic(auto)]
 
-mod clashes;
+pub mod clashes;
 mod counts;
 pub mod declarations;
 mod descending;
@@ -12,4 +12,4 @@ mod naming;
 mod parents;
 pub mod refusal;
 pub mod resolving;
-pub mod rows;
+pub mod source;

@@ -1,69 +1,40 @@
-ghost use Rattle.std.specs.Prelude.{◌≡◌};
-ghost use Rattle.values.specs.Fits.{same_lineage};
+ghost use Rattle.std.specs.Prelude.{◌≡◌, None};
 ghost use Rattle.descent.specs.Rows.{line_of};
 ghost use Rattle.outline.specs.Contents.{contents};
-ghost use Rattle.declarations.specs.Resolved.{earlier, parent_of, parent_or_root, parents_of};
+ghost use Rattle.tables.specs.Items.{given};
+ghost use Rattle.declarations.specs.Resolved.{earlier, parents_of};
+ghost use Rattle.declarations.specs.Rows.{row_named};
 
-use crate::rows::{row_named, rows_of};
+use crate::source::Source;
 use descent::line::Line;
-use outline::contents::Outline;
+use outline::entry::Row;
 use values::types::{CellRow, Lineage};
 
-pub(crate) fn same_lineage(a: Lineage, b: Lineage) -> bool
-    ensures { result ≡ same_lineage a b }
-{
-    match (a, b) {
-        (Lineage::Class, Lineage::Class) => true,
-        (Lineage::Relationship, Lineage::Relationship) => true,
-        _ => false,
-    }
-}
-
 // The number of the row, if it is of that line and comes before the line's declared row i.
+#[tactic(auto, using(crate::proofs::Same::lineage_is))]
 fn earlier(lineage: Lineage, i: usize, row: CellRow) -> Option<u8>
     ensures { result ≡ earlier lineage i row }
 {
-    if same_lineage(lineage, row.lineage) && row.number as usize <= i {
-        Some(row.number)
-    } else {
-        None
-    }
+    (lineage == row.lineage && row.number as usize <= i).then_some(row.number)
 }
 
-// The number of the parent of a line's declared row i, if it is no fault.
-pub(crate) fn parent_of<'a>(
-    text: &'a [u8],
-    outline: &'a Outline,
-    lineage: Lineage,
-    i: usize,
-) -> Option<u8>
-    ensures { result ≡ parent_of text.now (contents outline.now) lineage i }
-{
-    match rows_of(outline, lineage).get(i) {
-        None => None,
-        Some(row) => match row_named(text, outline, row.parent) {
-            None => None,
-            Some(parent) => earlier(lineage, i, parent),
-        },
+impl<'a> Source<'a> {
+    // The number of the parent of `row`, which is the line's declared row i, if the parent is no fault.
+    pub(crate) fn parent(&self, lineage: Lineage, i: usize, row: Row) -> Option<u8>
+        ensures { result ≡ given (row_named self.now.text.now (contents self.now.outline.now) row.parent) None (earlier lineage i) }
+    {
+        earlier(lineage, i, self.row_named(row.parent)?)
     }
-}
 
-fn parent_or_root<'a>(text: &'a [u8], outline: &'a Outline, lineage: Lineage, i: usize) -> u8
-    ensures { result ≡ parent_or_root text.now (contents outline.now) lineage i }
-{
-    match parent_of(text, outline, lineage, i) {
-        None => 0,
-        Some(parent) => parent,
+    // The line with all its declared rows.
+    pub(crate) fn line(&self, lineage: Lineage) -> Line
+        ensures { line_of result ≡ parents_of self.now.text.now (contents self.now.outline.now) lineage }
+    {
+        let mut line = Line::new();
+        for (i, &row) in self.rows(lineage).as_slice().iter().enumerate() {
+            // no row is refused: its parent comes before it, and a line has room for all rows of a table
+            let _ = line.add(self.parent(lineage, i, row).unwrap_or(0));
+        }
+        line
     }
-}
-
-// The line with all its declared rows.
-pub(crate) fn line_of<'a>(text: &'a [u8], outline: &'a Outline, lineage: Lineage) -> Line
-    ensures { line_of result ≡ parents_of text.now (contents outline.now) lineage }
-{
-    let mut line = Line::new();
-    for i in 0..rows_of(outline, lineage).len() {
-        let _ = line.add(parent_or_root(text, outline, lineage, i));
-    }
-    line
 }

@@ -1,8 +1,11 @@
-ghost use Rattle.std.specs.Prelude.{◌≡◌};
+ghost use Rattle.std.specs.Prelude.{◌≡◌, Some, ◌++◌, ◌∷◌};
+ghost use Rattle.std.specs.Fmt.{decimal};
 ghost use Rattle.declarations.specs.Faults.{number_of, place_of};
 
+use std::fmt;
+
 // Why declarations are refused, and at which place.
-#[derive(Clone, Copy)]
+#[derive(Clone, Copy, PartialEq, Eq, Debug)]
 pub enum Misdeclared {
     NameTaken(usize),
     NotDeclared(usize),
@@ -34,13 +37,24 @@ impl Misdeclared {
         ensures { result ≡ place_of self }
     {
         match self {
-            Misdeclared::NameTaken(place) => place,
-            Misdeclared::NotDeclared(place) => place,
-            Misdeclared::Clash(place) => place,
-            Misdeclared::EndMisfit(place) => place,
-            Misdeclared::OverrideMisfit(place) => place,
+            Misdeclared::NameTaken(place)
+            | Misdeclared::NotDeclared(place)
+            | Misdeclared::Clash(place)
+            | Misdeclared::EndMisfit(place)
+            | Misdeclared::OverrideMisfit(place)
+            | Misdeclared::TooManyFields(place) => place,
             Misdeclared::NoMain => 0,
-            Misdeclared::TooManyFields(place) => place,
         }
+    }
+}
+
+// The refusal's number and its place, with a space between them.
+impl fmt::Display for Misdeclared {
+    ghost output = { λ m. Some (decimal (number_of m) ++ 32 ∷ decimal (place_of m)) };
+
+    fn fmt<W: fmt::Write>(&self, f: &mut fmt::Formatter<W>) -> fmt::Result {
+        let number = self.number();
+        let place = self.place();
+        write!(f, "{number} {place}")
     }
 }

@@ -1,6 +1,10 @@
 -- The search upward for a member, over any line and any kind of member.
-use Rattle.std.specs.Prelude.{◌≡◌, ℕ, zero, suc, cond, List, length, Some, None, Option, ◌==◌, ◌≢◌, nat_lt, slice_index}
+use Rattle.std.specs.Prelude.{◌≡◌, ℕ, zero, suc, ◌<◌, cond, List, length, Some, None, Option, ◌==◌, ◌≢◌, nat_lt, slice_index}
 use Rattle.descent.specs.Descent.{Descends}
+
+-- `post r o` says that a call at r may answer o; each answer, at a number that fits a byte, is that of m
+abbrev pub Computes : {M : Type 0} → (ℕ → Option M → Type 0) → (ℕ → Option M) → Type 0
+Computes {M} post m = (r : ℕ) (o : Option M) → r < 256 → post r o → o ≡ m r
 
 -- `member r` is what row r has, if anything. Upward from a, f is the nearest row that has one, and it has m:
 -- a descends to f, and the rows on the way up to it have none.

@@ -1,6 +1,7 @@
 ghost use Rattle.std.specs.Prelude.{◌≡◌, ℕ, ◌<◌, ◌≤◌, length, slice_index};
 
 // A line of at most 32 rows. Row 0 is the root, and the place of its parent holds 0.
+// The parents are an array with a count beside it, since a line is `Copy`, and an `ArrayVec` is not.
 #[derive(Clone, Copy)]
 pub struct Line {
     parents: [u8; 32],
@@ -13,7 +14,7 @@ pub struct Line {
 }
 
 // Why a row is not added.
-#[derive(Clone, Copy)]
+#[derive(Clone, Copy, PartialEq, Eq, Debug)]
 pub enum RowRefusal {
     NoParent,
     Full,

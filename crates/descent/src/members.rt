@@ -1,36 +1,24 @@
-ghost use Rattle.std.specs.Prelude.{◌≡◌, ℕ, Some, None, Option};
-ghost use Rattle.descent.specs.Nearest.{Found, nearest_up};
+ghost use Rattle.std.specs.Prelude.{◌≡◌, ℕ, Option};
+ghost use Rattle.descent.specs.Nearest.{Computes, Found, nearest_up};
 ghost use Rattle.descent.specs.Rows.{line_of};
 
 use crate::line::Line;
 
-// Members of one kind, as the fields of a name: a row has one, or none.
-pub trait Members {
-    type Member: Copy;
-
-    // the member that a row has
-    ghost member: { Self → ℕ → Option Self.Member };
-
-    fn member_at(&self, row: u8) -> Option<Self::Member>
-        ensures { result ≡ member self.now row };
-}
-
-// The nearest row upward from `row` that has a member, with the member.
-pub fn nearest<M: Members>(line: &Line, row: u8, members: &M) -> Option<(u8, M::Member)>
-    ensures found { Found (line_of line.now) (M.Members.member members.now) row result }
-    ensures same { result ≡ nearest_up (line_of line.now) (M.Members.member members.now) row }
+// The nearest row upward from `row` that has a member, with the member; `member` answers what a row has, if anything.
+// A caller names the function that its closure computes, and the clauses speak of that function.
+pub fn nearest<T, F: Fn(u8) -> Option<T>>(line: &Line, row: u8, member: F) -> Option<(u8, T)>
+    requires { F.IsAlwaysCallable member }
+    ensures found { (m : ℕ → Option T) → Computes (F.post member) m → Found (line_of line.now) m row result }
+    ensures same { (m : ℕ → Option T) → Computes (F.post member) m → result ≡ nearest_up (line_of line.now) m row }
 {
     if row >= line.rows() {
         return None;
     }
     let mut at = row;
     loop {
-        if let Some(m) = members.member_at(at) {
+        if let Some(m) = member(at) {
             return Some((at, m));
         }
-        match line.parent(at) {
-            Some(p) => at = p,
-            None => return None,
-        }
+        at = line.parent(at)?;
     }
 }

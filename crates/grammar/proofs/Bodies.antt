@@ -1,5 +1,7 @@
 -- How the parts of types, statements and declarations join.
-use Rattle.std.proofs.Common.{◌≡◌, ℕ, ◌<◌, ◌≤◌, Bool, true, false, ◌&&◌, List, [], ◌∷◌, ◌++◌, length, Some, Ok, Err, Result, sym, refl, ap, ◌∙◌, append_assoc, append-nil, arith, length-append}
+use Rattle.std.proofs.Common.{◌≡◌, ℕ, ◌<◌, Bool, true, false, ◌&&◌, List, [], ◌∷◌, ◌++◌, length, Some, None, Ok, Err, Result, sym, refl, ap, ◌∙◌, subst, append_assoc, append-nil, arith, length-append}
+use Rattle.std.proofs.lemmas.Option.{none-some}
+use Rattle.std.proofs.lemmas.Bool.{false≢true}
 use Rattle.words.specs.declared.kind.Kind.{Kind}
 use Rattle.words.specs.declared.kind.Kind.TheVariants as kind
 use Rattle.words.specs.Words.{Token}
@@ -8,13 +10,18 @@ use Rattle.grammar.specs.declared.event.TypeWord.TheVariants as type-word
 use Rattle.grammar.specs.declared.event.Event.{Event}
 use Rattle.grammar.specs.declared.event.Event.TheVariants as event
 use Rattle.grammar.specs.declared.parser.Parser.{Parser}
+use Rattle.grammar.specs.declared.parser.declarations.Section.{Section}
+use Rattle.grammar.specs.declared.parser.declarations.Section.TheVariants as section
+use Rattle.grammar.specs.declared.parser.items.Found.{Found}
+use Rattle.grammar.specs.declared.parser.items.Found.TheVariants as found
 use Rattle.grammar.specs.declared.parser.reading.Unexpected.{Unexpected}
-use Rattle.grammar.specs.Bodies.{Path, FailsAll, ReadType, ReadTree, ReadAction, ReadBlock, ReadBody, Headed, ReadMembers, HeldPlace, ReadHeading, ReadEnds, ReadInside, ReadBoth, Gathered, GivesTree, GivesBody, GivesInside, GivesProgram, Finished, Falls, ReadProgram, FailsProgram}
+use Rattle.grammar.specs.Bodies.{Path, FailsAll, ReadType, ReadTree, ReadAction, ReadBlock, ReadBody, Headed, ReadMembers, HeldPlace, ReadHeading, ReadEnds, ReadInside, ReadBoth, fields_in, Gathered, GivesTree, GivesBody, GivesInside, GivesProgram, Finished, Falls, ReadProgram, FailsProgram}
 use Rattle.grammar.specs.Events.{events, fed}
 use Rattle.grammar.specs.Machine.{Sym, word, start, typed as type-symbol, decls, members, member, body, stmts, runs, step, type_then, statement, branches, class_rest, relationship_rest, inner_set, acting, bare, inner, done, plain}
-use Rattle.grammar.specs.Told.{rest, kind_at, place_at, seen, variable_begins, type_begins, statement_begins, Took, Fails, Walk, ReadExpr, ReadItem, HeldBare, HeldInner, ReadDone}
+use Rattle.grammar.specs.Told.{rest, kind_at, place_at, seen, variable_begins, type_begins, statement_begins, Took, Fails, Walk, ReadExpr, ReadItem, HeldBare, HeldInner, ReadDone, Finds, target_of}
 use Rattle.grammar.specs.Trees.{Mark, tok, Sort, many, Tree, expr, action, stmt, typed, variable, method, decl, none, inside, assigns, act, branch, boolean, set_of, row, declares, method_of, class, relationship, spell}
 use Rattle.grammar.specs.Trees as tree
+use Rattle.grammar.proofs.Accepting.{over, some_inj}
 use Rattle.grammar.proofs.Expected.{typed_name, members_type, members_done, member_method, stmts_item, decls_done, acting_place, acting_stuck, body_variable, body_stmts}
 use Rattle.grammar.proofs.Items.{fed_append, put_last, last_spells, last_reports}
 use Rattle.grammar.proofs.Steps.{step_leads, took_leads, more_done, fails_after}
@@ -31,9 +38,6 @@ module _ {X : Type 0} {after : X → Event → X} where
 module _ {X : Type 0} {after : X → Event → X} where
   pub took_path : {k : Kind} {p q : Parser} {at : ℕ} (l : X) (t : Took k p q at) → Path after p l q l (tok k t.mark ∷ []) []
   took_path l t = record { words = t.words; log = refl; end_is = t.end_is }
-
-pub type_length : {p q : Parser} {w : TypeWord} → ReadType p q w → length (rest q) ≤ length (rest p)
-type_length {q = q} t = omega (arith, ap length t.words, length-append (spell t.tree) (rest q))
 
 -- a path whose events nobody takes
 pub plain_path : {k : Kind} {p q : Parser} {at : ℕ} (t : Took k p q at) → Path {X = Unit {0}} (λ x e. x) p tt q tt (tok k t.mark ∷ []) []
@@ -66,14 +70,6 @@ module _ {X : Type 0} {after : X → Event → X} where
 module _ {X : Type 0} {after : X → Event → X} where
   pub path_as : {p q : Parser} {l m : X} {us ws : List Token} {ds es : List Event} → us ≡ ws → ds ≡ es → Path after p l q m us ds → Path after p l q m ws es
   path_as {q = q} {l} e f a = record { words = a.words ∙ ap (λ vs. vs ++ rest q) e; log = a.log ∙ ap (fed after l) f; end_is = a.end_is }
-
--- no more words are left than before
-module _ {X : Type 0} {after : X → Event → X} where
-  pub path_length : {p q : Parser} {l m : X} {ws : List Token} {es : List Event} → Path after p l q m ws es → length (rest q) ≤ length (rest p)
-  path_length {q = q} {ws = ws} a = omega (arith, ap length a.words, length-append ws (rest q))
-
-pub took_shorter : {k : Kind} {p q : Parser} {at : ℕ} → Took k p q at → length (rest q) < length (rest p)
-took_shorter t = omega (arith, ap length t.words)
 
 -- what fails later fails
 pub fails_from : {s q : Parser} {e : Unexpected} (γ δ then : List Sym → List Sym) → ((α : List Sym) → runs (γ α) (rest s) ≡ runs (δ (then α)) (rest q)) → q.end ≡ s.end → FailsAll q δ e → FailsAll s γ e
@@ -135,7 +131,7 @@ row_read {p} nb ns t = record {
 
 -- actions
 module _ {X : Type 0} {after : X → Event → X} where
-  pub bare_place : {s p : Parser} {l m : X} {at : ℕ} → HeldBare after s l p m at → (kind_at (rest p) ≡ Some kind.Dot → ⊥) → (kind_at (rest p) ≡ Some kind.Colon → ⊥) → HeldPlace after s l p m at (event.ToVariable at)
+  bare_place : {s p : Parser} {l m : X} {at : ℕ} → HeldBare after s l p m at → (kind_at (rest p) ≡ Some kind.Dot → ⊥) → (kind_at (rest p) ≡ Some kind.Colon → ⊥) → HeldPlace after s l p m at (event.ToVariable at)
   unfolding spell events
   bare_place {p = p} h nd nc = record {
     tree = tree.bare h.mark;
@@ -147,7 +143,7 @@ module _ {X : Type 0} {after : X → Event → X} where
   }
 
 module _ {X : Type 0} {after : X → Event → X} where
-  pub inner_place : {s p : Parser} {l m : X} {at n : ℕ} → HeldInner after s l p m at n → (kind_at (rest p) ≡ Some kind.Dot → ⊥) → (kind_at (rest p) ≡ Some kind.Colon → ⊥) → HeldPlace after s l p m at (event.ToMember n at)
+  inner_place : {s p : Parser} {l m : X} {at n : ℕ} → HeldInner after s l p m at n → (kind_at (rest p) ≡ Some kind.Dot → ⊥) → (kind_at (rest p) ≡ Some kind.Colon → ⊥) → HeldPlace after s l p m at (event.ToMember n at)
   unfolding events
   inner_place {p = p} h nd nc = record {
     tree = inside h.tree h.dot h.name;
@@ -157,6 +153,13 @@ module _ {X : Type 0} {after : X → Event → X} where
     first_is = h.first_is;
     leads = λ α. h.leads acting α ∙ acting_place inner α (rest p) refl refl nd nc;
   }
+
+module _ {X : Type 0} (after : X → Event → X) where
+  pub target_place : (f : Found) (s p : Parser) (l m : X) (at : ℕ) (e : Event) → target_of f at ≡ Some e → Finds after s l at f p m → (kind_at (rest p) ≡ Some kind.Dot → ⊥) → (kind_at (rest p) ≡ Some kind.Colon → ⊥) → HeldPlace after s l p m at e
+  target_place found.Bare s p l m at e t h nd nc = subst (HeldPlace after s l p m at) (some_inj _ _ t) (bare_place h nd nc)
+  target_place (found.Inner n) s p l m at e t h nd nc = subst (HeldPlace after s l p m at) (some_inj _ _ t) (inner_place h nd nc)
+  target_place found.Done s p l m at e t h nd nc = absurd (none-some e t)
+  target_place found.Plain s p l m at e t h nd nc = absurd (none-some e t)
 
 module _ {X : Type 0} {after : X → Event → X} where
   pub assign_action : {s p q r : Parser} {l m j k n : X} {at x : ℕ} {e : Event} → HeldPlace after s l p m at e → Took kind.Assign p q x → j ≡ after m (e) → ReadExpr after q j r k → n ≡ after k (event.Assigned) → ReadAction after s l r n at
@@ -180,13 +183,21 @@ module _ {X : Type 0} {after : X → Event → X} where
   }
 
 module _ {X : Type 0} {after : X → Event → X} where
-  pub plain_fails : {s p : Parser} {l m : X} {at : ℕ} {e : Unexpected} → ReadItem after s l p m at plain → (kind_at (rest p) ≡ Some kind.Dot → ⊥) → (kind_at (rest p) ≡ Some kind.Colon → ⊥) → e.place ≡ place_at p.end (rest p)
+  plain_fails : {s p : Parser} {l m : X} {at : ℕ} {e : Unexpected} → ReadItem after s l p m at plain → (kind_at (rest p) ≡ Some kind.Dot → ⊥) → (kind_at (rest p) ≡ Some kind.Colon → ⊥) → e.place ≡ place_at p.end (rest p)
       → FailsAll s (λ α. start acting ∷ word kind.Semicolon ∷ α) e
   plain_fails {p = p} i nd nc h = record {
     from = rest p;
     stuck = λ α. i.leads acting (word kind.Semicolon ∷ α) ∙ acting_stuck plain (word kind.Semicolon ∷ α) (rest p) refl refl nd nc;
     place_is = h ∙ ap (λ n. place_at n (rest p)) i.walk.end_is;
   }
+
+module _ {X : Type 0} (after : X → Event → X) where
+  pub no_target_fails : (f : Found) (s p : Parser) (l m : X) (at : ℕ) {e : Unexpected} → target_of f at ≡ None → (f ≡ found.Done → ⊥) → Finds after s l at f p m → (kind_at (rest p) ≡ Some kind.Dot → ⊥) → (kind_at (rest p) ≡ Some kind.Colon → ⊥)
+      → e.place ≡ place_at p.end (rest p) → FailsAll s (λ α. start acting ∷ word kind.Semicolon ∷ α) e
+  no_target_fails found.Bare s p l m at t d h nd nc e = absurd (none-some _ (sym t))
+  no_target_fails (found.Inner n) s p l m at t d h nd nc e = absurd (none-some _ (sym t))
+  no_target_fails found.Done s p l m at t d h nd nc e = absurd (d refl)
+  no_target_fails found.Plain s p l m at t d h nd nc e = plain_fails h nd nc e
 
 -- statements
 module _ {X : Type 0} {after : X → Event → X} where
@@ -233,20 +244,10 @@ unfolding spell
 stmt_some (act a s) = omega (arith, length-append (spell a) (tok kind.Semicolon s ∷ []))
 stmt_some (branch i o e c b ss f l g us h s) = omega arith
 
-pub decl_some : (t : Tree decl) → 0 < length (spell t)
-unfolding spell
-decl_some (class w n x p b vs ms f) = omega arith
-decl_some (relationship w n x p o y m z c b vs ms f) = omega arith
-
 module _ {X : Type 0} (after : X → Event → X) where
   pub stmt_falls : (r : Result (Unit {0}) Unexpected) (p q : Parser) (l m : X) (γ : Sym) (δ : List Sym → List Sym) → GivesTree after stmt p l r q m γ δ → Falls p r q
   stmt_falls (Ok _) p q l m γ δ t = tree_falls t.path (stmt_some t.tree)
   stmt_falls (Err e) p q l m γ δ t = tt
-
-module _ {X : Type 0} (after : X → Event → X) where
-  pub decl_falls : (r : Result (Unit {0}) Unexpected) (p q : Parser) (l m : X) (γ : Sym) (δ : List Sym → List Sym) → GivesTree after decl p l r q m γ δ → Falls p r q
-  decl_falls (Ok _) p q l m γ δ t = tree_falls t.path (decl_some t.tree)
-  decl_falls (Err e) p q l m γ δ t = tt
 
 module _ {X : Type 0} {after : X → Event → X} where
   pub block_read : {s p q r : Parser} {l m : X} {a b : ℕ} → Took kind.OpenBrace s p a → ReadTree after (many stmt) p l q m stmts (λ α. α) → Took kind.CloseBrace q r b → ReadBlock after s l r m
@@ -338,19 +339,20 @@ module _ {X : Type 0} {after : X → Event → X} where
       }
 
 module _ {X : Type 0} {after : X → Event → X} where
-  pub gather_field : {p q r : Parser} {l m n : X} → Gathered after true p l q m → ReadTree after variable q m r n (members true) (λ α. members true ∷ α) → Gathered after true p l r n
-  gather_field a b = some_more a b
+  pub gather_field : (x : Section) (p q r : Parser) (l m n : X) → fields_in x ≡ true → Gathered after x p l q m → ReadTree after variable q m r n (members true) (λ α. members true ∷ α) → Gathered after section.Fields p l r n
+  gather_field section.Fields p q r l m n e a b = some_more a b
+  gather_field section.Methods p q r l m n e a b = absurd (false≢true e)
 
 module _ {X : Type 0} {after : X → Event → X} where
-  pub gather_method : (b : Bool) (p q r : Parser) (l m n : X) → Gathered after b p l q m → ReadTree after method q m r n (members b) (λ α. members false ∷ α) → ReadBoth after p l r n
+  pub gather_method : (x : Section) (p q r : Parser) (l m n : X) → Gathered after x p l q m → ReadTree after method q m r n (members (fields_in x)) (λ α. members false ∷ α) → ReadBoth after p l r n
   unfolding spell events
-  gather_method true p q r l m n a t = record {
+  gather_method section.Fields p q r l m n a t = record {
     fields = a.tree;
     methods = tree.more t.tree none;
     path = path_as (ap (λ us. spell a.tree ++ us) (sym (append-nil _))) (ap (λ us. events 0 a.tree ++ us) (sym (append-nil _))) (path_path a.path t.path);
     leads = λ α. a.leads α ∙ t.leads α;
   }
-  gather_method false p q r l m n a t = record {
+  gather_method section.Methods p q r l m n a t = record {
     fields = a.fields;
     methods = put_last a.methods t.tree;
     path = path_as (append_assoc (spell a.fields) (spell a.methods) (spell t.tree) ∙ ap (λ us. spell a.fields ++ us) (sym (last_spells a.methods t.tree)))
@@ -359,21 +361,21 @@ module _ {X : Type 0} {after : X → Event → X} where
   }
 
 module _ {X : Type 0} {after : X → Event → X} where
-  pub gather_done : (b : Bool) (p q : Parser) (l m : X) → Gathered after b p l q m → type_begins (rest q) ≡ false → ReadMembers after p l q m
+  pub gather_done : (x : Section) (p q : Parser) (l m : X) → Gathered after x p l q m → type_begins (rest q) ≡ false → ReadMembers after p l q m
   unfolding spell events
-  gather_done true p q l m a e = record {
+  gather_done section.Fields p q l m a e = record {
     fields = a.tree;
     methods = none;
     path = path_as (sym (append-nil _)) (sym (append-nil _)) a.path;
     leads = λ α. a.leads α ∙ members_done true α (rest q) e;
   }
-  gather_done false p q l m a e = record { fields = a.fields; methods = a.methods; path = a.path; leads = λ α. a.leads α ∙ members_done false α (rest q) e }
+  gather_done section.Methods p q l m a e = record { fields = a.fields; methods = a.methods; path = a.path; leads = λ α. a.leads α ∙ members_done false α (rest q) e }
 
 -- what a member that fails does to the members before it
 module _ {X : Type 0} (after : X → Event → X) where
-  pub gather_fails : (b : Bool) (p q : Parser) (l m : X) {e : Unexpected} → Gathered after b p l q m → Fails q (members b) e → Fails p (members true) e
-  gather_fails true p q l m a f = fails_one (fails_from (λ α. members true ∷ α) (λ α. members true ∷ α) (λ α. α) a.leads a.path.end_is (fails_all f))
-  gather_fails false p q l m a f = fails_one (fails_from (λ α. members true ∷ α) (λ α. members false ∷ α) (λ α. α) a.leads a.path.end_is (fails_all f))
+  pub gather_fails : (x : Section) (p q : Parser) (l m : X) {e : Unexpected} → Gathered after x p l q m → Fails q (members (fields_in x)) e → Fails p (members true) e
+  gather_fails section.Fields p q l m a f = fails_one (fails_from (λ α. members true ∷ α) (λ α. members true ∷ α) (λ α. α) a.leads a.path.end_is (fails_all f))
+  gather_fails section.Methods p q l m a f = fails_one (fails_from (λ α. members true ∷ α) (λ α. members false ∷ α) (λ α. α) a.leads a.path.end_is (fails_all f))
 
 module _ {X : Type 0} {after : X → Event → X} where
   pub inside_read : {s p q r : Parser} {l m : X} {a b : ℕ} → Took kind.OpenBrace s p a → ReadMembers after p l q m → Took kind.CloseBrace q r b → ReadInside after s l r m
@@ -445,10 +447,6 @@ module _ {X : Type 0} {after : X → Event → X} where
   pub program_read : {p q : Parser} {l m : X} → ReadTree after (many decl) p l q m decls (λ α. decls ∷ α) → rest q ≡ [] → ReadProgram after p l m
   program_read a e = record { tree = a.tree; words = a.path.words ∙ ap (λ us. spell a.tree ++ us) e ∙ append-nil (spell a.tree); log = a.path.log }
 
-over : (w : Token) (ws : List Token) → runs [] (w ∷ ws) ≡ Some (w ∷ ws)
-unfolding runs step
-over w ws = refl
-
 module _ {X : Type 0} {after : X → Event → X} where
   pub program_stops : {p q : Parser} {l m : X} {e : Unexpected} (w : Token) (ws : List Token) → ReadTree after (many decl) p l q m decls (λ α. decls ∷ α) → rest q ≡ w ∷ ws
       → (kind_at (rest q) ≡ Some kind.Class → ⊥) → (kind_at (rest q) ≡ Some kind.Relationship → ⊥) → e.place ≡ w.place → FailsProgram p e
@@ -457,10 +455,6 @@ module _ {X : Type 0} {after : X → Event → X} where
     stuck = a.leads [] ∙ decls_done [] (rest q) nc nr ∙ ap (runs []) r ∙ over w ws;
     place_is = h;
   }
-
-module _ {X : Type 0} {after : X → Event → X} where
-  pub program_fails : {p q : Parser} {l m : X} {e : Unexpected} → ReadTree after (many decl) p l q m decls (λ α. decls ∷ α) → Fails q decls e → FailsProgram p e
-  program_fails a f = record { from = f.from; stuck = a.leads [] ∙ f.stuck []; place_is = f.place_is ∙ ap (λ n. place_at n f.from) a.path.end_is }
 
 -- by the answer of the last part
 module _ {X : Type 0} {after : X → Event → X} where

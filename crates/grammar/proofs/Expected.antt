@@ -1,5 +1,6 @@
 -- What is expected, in other symbols.
 use Rattle.std.proofs.Common.{◌≡◌, Bool, true, false, cond, ◌&&◌, ◌||◌, List, [], ◌∷◌, Some, None, Option, sym, refl, ap, ◌∙◌}
+use Rattle.std.proofs.lemmas.Bool.{false≢true}
 use Rattle.std.proofs.lemmas.Bool.{and_right, or_parts}
 use Rattle.words.specs.declared.kind.Kind.{Kind}
 use Rattle.words.specs.declared.kind.Kind.TheVariants as kind
@@ -7,15 +8,8 @@ use Rattle.words.specs.Kinds.{is}
 use Rattle.words.specs.Words.{Token}
 use Rattle.grammar.specs.Machine.{Sym, word, start, more, typed, decls, members, member, body, opening, stmts, runs, step, begin, onward, type_then, statement, ends, either, method_rest, branches, whole, acting, Form, bare, done, plain, fresh, inner_set, closes, settable, literal_word}
 use Rattle.grammar.specs.Told.{kind_at, seen, variable_begins, type_begins, statement_begins, statement_word}
-use Rattle.grammar.proofs.Passing.{never_true}
 use Rattle.grammar.proofs.Steps.{ne_first}
 use Rattle.grammar.proofs.WordKinds.{is_true}
-
--- two lists of symbols expect the same where they do at the first word and at the end
-same_runs : (α β : List Sym) (ws : List Token) → ends α ≡ ends β → ((w : Token) (us : List Token) → ws ≡ w ∷ us → step α w.kind ≡ step β w.kind) → runs α ws ≡ runs β ws
-unfolding runs
-same_runs α β [] e h = ap (λ b. cond b None (Some [])) e
-same_runs α β (w ∷ ws) e h = ap (λ o. either o (Some (w ∷ ws)) (λ γ. runs γ ws)) (h w ws refl)
 
 -- a type that begins with no keyword is a name
 pub typed_name : (α : List Sym) (ws : List Token) → (kind_at ws ≡ Some kind.Boolean → ⊥) → (kind_at ws ≡ Some kind.Set → ⊥) → runs (typed ∷ α) ws ≡ runs (word kind.Name ∷ α) ws
@@ -31,21 +25,21 @@ type_step ψ k x y e = go (is kind.Boolean k) (is kind.Set k) (is kind.Name k) e
     go true b c e = refl
     go false true c e = refl
     go false false true e = refl
-    go false false false e = never_true e
+    go false false false e = absurd (false≢true e)
 
 no_type_step : (ψ : List Sym) (k : Kind) (x : Option (List Sym)) → (is kind.Boolean k || (is kind.Set k || is kind.Name k)) ≡ false → type_then ψ k x ≡ x
 unfolding type_then
 no_type_step ψ k x e = go (is kind.Boolean k) (is kind.Set k) (is kind.Name k) e
   where
     go : (a b c : Bool) → (a || (b || c)) ≡ false → cond a (Some ψ) (cond b (Some (inner_set ψ)) (cond c (Some ψ) x)) ≡ x
-    go true b c e = never_true (sym e)
-    go false true c e = never_true (sym e)
-    go false false true e = never_true (sym e)
+    go true b c e = absurd (false≢true (sym e))
+    go false true c e = absurd (false≢true (sym e))
+    go false false true e = absurd (false≢true (sym e))
     go false false false e = refl
 
 pub members_type : (b : Bool) (α : List Sym) (ws : List Token) → type_begins ws ≡ true → runs (members b ∷ α) ws ≡ runs (typed ∷ word kind.Name ∷ member b ∷ α) ws
 unfolding runs step
-members_type b α [] e = never_true e
+members_type b α [] e = absurd (false≢true e)
 members_type b α (w ∷ ws) e = ap (λ o. either o (Some (w ∷ ws)) (λ γ. runs γ ws)) (type_step (word kind.Name ∷ member b ∷ α) w.kind (step α w.kind) None e)
 
 pub members_done : (b : Bool) (α : List Sym) (ws : List Token) → type_begins ws ≡ false → runs (members b ∷ α) ws ≡ runs α ws
@@ -72,7 +66,7 @@ item_step β k x y e = go (is kind.Name k) (literal_word k) (is kind.New k) (is 
     go false true c d e = refl
     go false false true d e = refl
     go false false false true e = refl
-    go false false false false e = never_true e
+    go false false false false e = absurd (false≢true e)
 
 no_item_step : (β : List Sym) (k : Kind) (x : Option (List Sym)) → (is kind.Name k || (literal_word k || (is kind.New k || is kind.OpenParen k))) ≡ false → begin acting β k x ≡ x
 unfolding begin
@@ -80,15 +74,15 @@ no_item_step β k x e = go (is kind.Name k) (literal_word k) (is kind.New k) (is
   where
     go : (a b c d : Bool) → (a || (b || (c || d))) ≡ false
         → cond a (Some (more acting bare ∷ β)) (cond b (Some (more acting plain ∷ β)) (cond c (Some (fresh (more acting done ∷ β))) (cond d (Some (start whole ∷ word kind.CloseParen ∷ more acting plain ∷ β)) x))) ≡ x
-    go true b c d e = never_true (sym e)
-    go false true c d e = never_true (sym e)
-    go false false true d e = never_true (sym e)
-    go false false false true e = never_true (sym e)
+    go true b c d e = absurd (false≢true (sym e))
+    go false true c d e = absurd (false≢true (sym e))
+    go false false true d e = absurd (false≢true (sym e))
+    go false false false true e = absurd (false≢true (sym e))
     go false false false false e = refl
 
 pub stmts_item : (α : List Sym) (ws : List Token) → statement_begins ws ≡ true → (kind_at ws ≡ Some kind.If → ⊥) → runs (stmts ∷ α) ws ≡ runs (start acting ∷ word kind.Semicolon ∷ stmts ∷ α) ws
 unfolding runs step statement
-stmts_item α [] e ni = never_true e
+stmts_item α [] e ni = absurd (false≢true e)
 stmts_item α (w ∷ ws) e ni =
     let i = ne_first kind.If w ws ni in
     let h : (is kind.Name w.kind || (literal_word w.kind || (is kind.New w.kind || is kind.OpenParen w.kind))) ≡ true = rw i at e in
@@ -140,7 +134,7 @@ acting_stuck f β (w ∷ ws) s c nd nc =
 -- after a name in a method's body, a second name makes a variable, and anything else an action
 opening_name : (α : List Sym) (ws : List Token) → seen kind.Name ws ≡ true → runs (opening ∷ α) ws ≡ runs (word kind.Name ∷ word kind.Semicolon ∷ body ∷ α) ws
 unfolding runs step
-opening_name α [] e = never_true e
+opening_name α [] e = absurd (false≢true e)
 opening_name α (w ∷ ws) e = rw e
 
 opening_other : (α : List Sym) (ws : List Token) → seen kind.Name ws ≡ false → runs (opening ∷ α) ws ≡ runs (more acting bare ∷ word kind.Semicolon ∷ stmts ∷ α) ws
@@ -155,7 +149,7 @@ name_statement α k x e = let h = is_true kind.Name k e in rw h
 -- a method's body goes on with a variable, or with statements
 pub body_variable : (α : List Sym) (ws : List Token) → variable_begins ws ≡ true → runs (body ∷ α) ws ≡ runs (typed ∷ word kind.Name ∷ word kind.Semicolon ∷ body ∷ α) ws
 unfolding runs step ends type_then
-body_variable α [] e = never_true e
+body_variable α [] e = absurd (false≢true e)
 body_variable α (w ∷ ws) e = go (is kind.Boolean w.kind) (is kind.Set w.kind) (is kind.Name w.kind) (seen kind.Name ws) e (opening_name α ws)
   where
     go : (a b c d : Bool) → (a || (b || (c && d))) ≡ true → (d ≡ true → runs (opening ∷ α) ws ≡ runs (word kind.Name ∷ word kind.Semicolon ∷ body ∷ α) ws)
@@ -164,8 +158,8 @@ body_variable α (w ∷ ws) e = go (is kind.Boolean w.kind) (is kind.Set w.kind)
     go true b c d e h = refl
     go false true c d e h = refl
     go false false true true e h = h refl
-    go false false true false e h = never_true e
-    go false false false d e h = never_true e
+    go false false true false e h = absurd (false≢true e)
+    go false false false d e h = absurd (false≢true e)
 
 pub body_stmts : (α : List Sym) (ws : List Token) → variable_begins ws ≡ false → runs (body ∷ α) ws ≡ runs (stmts ∷ α) ws
 unfolding runs step ends
@@ -178,8 +172,8 @@ body_stmts α (w ∷ ws) e =
         → (c ≡ true → d ≡ false → runs (opening ∷ α) ws ≡ either (statement α w.kind (step α w.kind)) (Some (w ∷ ws)) (λ β. runs β ws))
         → either (cond a (Some (word kind.Name ∷ word kind.Semicolon ∷ body ∷ α)) (cond b (Some (inner_set (word kind.Name ∷ word kind.Semicolon ∷ body ∷ α))) (cond c (Some (opening ∷ α)) (statement α w.kind (step α w.kind))))) (Some (w ∷ ws)) (λ β. runs β ws)
         ≡ either (statement α w.kind (step α w.kind)) (Some (w ∷ ws)) (λ β. runs β ws)
-    go true b c d e h = never_true (sym e)
-    go false true c d e h = never_true (sym e)
-    go false false true true e h = never_true (sym e)
+    go true b c d e h = absurd (false≢true (sym e))
+    go false true c d e h = absurd (false≢true (sym e))
+    go false false true true e h = absurd (false≢true (sym e))
     go false false true false e h = h refl refl
     go false false false d e h = refl

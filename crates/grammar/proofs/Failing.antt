@@ -1,5 +1,7 @@
 -- Where an item or an expression cannot go on, and what the `?` of such a place gives.
 use Rattle.std.proofs.Common.{◌≡◌, ℕ, Bool, true, false, cond, ◌&&◌, ◌||◌, List, [], ◌∷◌, length, IsErrAnd, Some, None, Ok, Err, Option, Result, sym, refl, ap, ◌∙◌, subst, arith}
+use Rattle.std.proofs.lemmas.Option.{none-some}
+use Rattle.std.proofs.lemmas.Bool.{false≢true}
 use Rattle.std.proofs.lemmas.Result.{err_from_is_err_and}
 use Rattle.std.proofs.lemmas.Bool.{and_right}
 use Rattle.words.specs.declared.kind.Kind.{Kind}
@@ -11,25 +13,24 @@ use Rattle.grammar.specs.declared.event.Literal.{Literal as Value}
 use Rattle.grammar.specs.declared.event.Literal.TheVariants as value
 use Rattle.grammar.specs.declared.event.Pairing.{Pairing as Doing}
 use Rattle.grammar.specs.declared.event.Pairing.TheVariants as doing
+use Rattle.grammar.specs.declared.event.End.{End as Side}
+use Rattle.grammar.specs.declared.event.End.TheVariants as side
 use Rattle.grammar.specs.declared.parser.Parser.{Parser}
 use Rattle.grammar.specs.declared.parser.reading.Unexpected.{Unexpected}
 use Rattle.grammar.specs.declared.parser.items.Found.{Found}
 use Rattle.grammar.specs.declared.parser.items.Found.TheVariants as found
-use Rattle.grammar.specs.Events.{value_of, doing_of}
+use Rattle.grammar.specs.declared.parser.items.Part.{Part}
+use Rattle.grammar.specs.declared.parser.items.Part.TheVariants as part
+use Rattle.grammar.specs.Events.{value_of, doing_of, side_of}
 use Rattle.grammar.specs.Machine.{Sym, word, start, more, dotted, named, runs, step, begin, onward, after_dot, ends, fresh, two, alone_is, literal_word, Use, whole, operand, Form, done, plain}
-use Rattle.grammar.specs.Told.{rest, kind_at, seen, place_at, form_of, AfterDot, Named, DottedBare, ReadTarget, ReadExpr, ReadItem, Took, Passed, Fails, Leads, Finds, FailsItem, GivesItem, GivesExpr, GivesPart, Goes, pairing_at, doing_kind, literal_at}
-use Rattle.grammar.specs.Trees.{literal_kind, pairing_kind}
+use Rattle.grammar.specs.Told.{rest, kind_at, seen, place_at, form_of, AfterDot, Named, DottedBare, ReadTarget, ReadExpr, ReadItem, Took, Passed, Fails, Leads, Finds, FailsItem, GivesItem, GivesExpr, GivesPart, pairing_at, end_at, doing_kind, literal_at}
+use Rattle.grammar.specs.Trees.{literal_kind, pairing_kind, end_kind}
 use Rattle.grammar.specs.Trees as tree
+use Rattle.grammar.proofs.Accepting.{some_inj}
 use Rattle.grammar.proofs.Items.{pair_step}
-use Rattle.grammar.proofs.Passing.{never, never_true, took, first_word, word_passes, word_stops, unseen_first}
+use Rattle.grammar.proofs.Passing.{took, first_word, word_passes, word_stops, seen_first, unseen_first}
 use Rattle.grammar.proofs.Steps.{step_leads, took_leads, fails_after, stuck_at, not_kind, start_stops}
 use Rattle.grammar.proofs.WordKinds.{is_true}
-
-pub some_same : {A : Type 0} {x y : A} → Some x ≡ Some y → x ≡ y
-some_same e = cc
-
-pub not_none : {A : Type 0} {B : Type 0} {x : A} → ◌≡◌ {A = Option A} None (Some x) → B
-not_none e = let z : ◌≡◌ {A = ℕ} 0 1 = cc in never z
 
 -- the exits of a `?`
 pub failed : {A : Type 0} {e : Unexpected} (r : Result A Unexpected) → IsErrAnd r (λ y. y ≡ e) → r ≡ Err e
@@ -44,34 +45,22 @@ module _ {X : Type 0} (after : X → Event → X) where
   expr_exit {p} q l m x f = subst (λ (r : Result (Unit {0}) Unexpected). GivesExpr after p l r q m) (sym x) f
 
 module _ {X : Type 0} (after : X → Event → X) where
-  pub part_exit : {p : Parser} (q : Parser) (l m : X) {r : Result Bool Unexpected} {e : Unexpected} → r ≡ Err e → Fails p (start whole) e → GivesPart after p l r q m
-  part_exit {p} q l m x f = subst (λ (r : Result Bool Unexpected). GivesPart after p l r q m) (sym x) f
-
-pub goes_exit : {A : Type 0} (p q : Parser) {r : Result A Unexpected} {e : Unexpected} → r ≡ Err e → Goes p r q
-goes_exit {A} p q x = subst (λ (r : Result A Unexpected). Goes p r q) (sym x) tt
-
--- words are passed
-pub goes_after : {A : Type 0} {k : Kind} {p q : Parser} {at : ℕ} → Took k p q at → (r : Result A Unexpected) (v : Parser) → Goes q r v → Goes p r v
-goes_after t (Ok f) v g = record { end_is = g.end_is ∙ t.end_is; shorter = omega (arith, ap length t.words, g.shorter) }
-goes_after t (Err e) v g = tt
-
-module _ {X : Type 0} (after : X → Event → X) where
-  pub finds_at : (f : Found) (p q : Parser) (l m : X) {a b : ℕ} → a ≡ b → Finds after p l b f q m → Finds after p l a f q m
-  finds_at f p q l m e h = subst (λ (n : ℕ). Finds after p l n f q m) (sym e) h
+  pub part_exit : {p : Parser} (q : Parser) (l m : X) {r : Result Part Unexpected} {e : Unexpected} → r ≡ Err e → Fails p (start whole) e → GivesPart after p l r q m
+  part_exit {p} q l m x f = subst (λ (r : Result Part Unexpected). GivesPart after p l r q m) (sym x) f
 
 module _ {X : Type 0} (after : X → Event → X) where
   pub finds_as : (p q : Parser) (l m : X) (at : ℕ) {f g : Found} → f ≡ g → Finds after p l at f q m → Finds after p l at g q m
   finds_as p q l m at e h = subst (λ (f : Found). Finds after p l at f q m) e h
 
 module _ {X : Type 0} {after : X → Event → X} where
-  pub target_of : {p q : Parser} {l m : X} (b : Bool) → b ≡ true → GivesPart after p l (Ok b) q m → ReadTarget after p l q m
-  target_of true e h = h
-  target_of false e h = never_true e
+  pub target_part : {p q : Parser} {l m : X} (x : Part) → x ≡ part.Target → GivesPart after p l (Ok x) q m → ReadTarget after p l q m
+  target_part part.Target e h = h
+  target_part part.Last e h = let z : ⊥ = cc in absurd z
 
 module _ {X : Type 0} {after : X → Event → X} where
-  pub last_of : {p q : Parser} {l m : X} (b : Bool) → b ≡ false → GivesPart after p l (Ok b) q m → ReadExpr after p l q m
-  last_of true e h = never_true (sym e)
-  last_of false e h = h
+  pub last_part : {p q : Parser} {l m : X} (x : Part) → (x ≡ part.Target → ⊥) → GivesPart after p l (Ok x) q m → ReadExpr after p l q m
+  last_part part.Target e h = absurd (e refl)
+  last_part part.Last e h = h
 
 -- the words from s to q begin an item, whatever it is read for, and δ is expected after them
 pub record Reached (s q : Parser) (δ : Use → List Sym → List Sym) : Type 0 where
@@ -131,10 +120,10 @@ no_literal : (k : Kind) → literal_at k ≡ None → literal_word k ≡ false
 no_literal k e = go (is kind.True k) (is kind.False k) (is kind.Null k) (is kind.This k) e
   where
     go : (a b c d : Bool) → cond a (Some value.True) (cond b (Some value.False) (cond c (Some value.Null) (cond d (Some value.This) None))) ≡ None → (a || b || c || d) ≡ false
-    go true b c d e = not_none (sym e)
-    go false true c d e = not_none (sym e)
-    go false false true d e = not_none (sym e)
-    go false false false true e = not_none (sym e)
+    go true b c d e = absurd (none-some _ (sym e))
+    go false true c d e = absurd (none-some _ (sym e))
+    go false false true d e = absurd (none-some _ (sym e))
+    go false false false true e = absurd (none-some _ (sym e))
     go false false false false e = refl
 
 pub literal_some : (k : Kind) (v : Value) → literal_at k ≡ Some v → (x : tree.Literal) × (k ≡ literal_kind x) × (v ≡ value_of x)
@@ -142,36 +131,36 @@ literal_some k v e = go (is kind.True k) (is kind.False k) (is kind.Null k) (is 
   where
     go : (a b c d : Bool) → (a ≡ true → k ≡ kind.True) → (b ≡ true → k ≡ kind.False) → (c ≡ true → k ≡ kind.Null) → (d ≡ true → k ≡ kind.This)
         → cond a (Some value.True) (cond b (Some value.False) (cond c (Some value.Null) (cond d (Some value.This) None))) ≡ Some v → (x : tree.Literal) × (k ≡ literal_kind x) × (v ≡ value_of x)
-    go true b c d f g h i e = (tree.true, f refl, sym (some_same e))
-    go false true c d f g h i e = (tree.false, g refl, sym (some_same e))
-    go false false true d f g h i e = (tree.null, h refl, sym (some_same e))
-    go false false false true f g h i e = (tree.this, i refl, sym (some_same e))
-    go false false false false f g h i e = not_none e
+    go true b c d f g h i e = (tree.true, f refl, sym (some_inj _ _ e))
+    go false true c d f g h i e = (tree.false, g refl, sym (some_inj _ _ e))
+    go false false true d f g h i e = (tree.null, h refl, sym (some_inj _ _ e))
+    go false false false true f g h i e = (tree.this, i refl, sym (some_inj _ _ e))
+    go false false false false f g h i e = absurd (none-some _ e)
 
 -- no item begins here
 pub begin_fails : {p : Parser} {e : Unexpected} (k : Kind) → kind_at (rest p) ≡ Some k → (k ≡ kind.Name → ⊥) → (k ≡ kind.New → ⊥) → (k ≡ kind.OpenParen → ⊥) → literal_at k ≡ None
     → e.place ≡ place_at p.end (rest p) → FailsItem p e
 begin_fails {p} k e a b c l h = λ u. record {
   from = rest p;
-  stuck = λ α. start_stops u α (rest p) (λ f. a (some_same (sym e ∙ f))) (λ j f. subst (λ (i : Kind). literal_word i ≡ false) (some_same (sym e ∙ f)) (no_literal k l)) (λ f. b (some_same (sym e ∙ f))) (λ f. c (some_same (sym e ∙ f)));
+  stuck = λ α. start_stops u α (rest p) (λ f. a (some_inj _ _ (sym e ∙ f))) (λ j f. subst (λ (i : Kind). literal_word i ≡ false) (some_inj _ _ (sym e ∙ f)) (no_literal k l)) (λ f. b (some_inj _ _ (sym e ∙ f))) (λ f. c (some_inj _ _ (sym e ∙ f)));
   place_is = h;
 }
 
 pub end_fails : {p : Parser} {e : Unexpected} → kind_at (rest p) ≡ None → e.place ≡ place_at p.end (rest p) → FailsItem p e
 end_fails {p} e h = λ u. record {
   from = rest p;
-  stuck = λ α. start_stops u α (rest p) (λ f. not_none (sym e ∙ f)) (λ j f. not_none (sym e ∙ f)) (λ f. not_none (sym e ∙ f)) (λ f. not_none (sym e ∙ f));
+  stuck = λ α. start_stops u α (rest p) (λ f. absurd (none-some _ (sym e ∙ f))) (λ j f. absurd (none-some _ (sym e ∙ f))) (λ f. absurd (none-some _ (sym e ∙ f))) (λ f. absurd (none-some _ (sym e ∙ f)));
   place_is = h;
 }
 
 -- a word that fails whatever comes later is the first one
 never_all : (us from : List Token) → ((α : List Sym) → runs α us ≡ Some from) → ⊥
 unfolding runs step ends
-never_all [] from h = not_none (h [])
-never_all (w ∷ []) from h = not_none (sym (word_passes w.kind (record { place = w.place; bytes = w.bytes }) [] []) ∙ h (word w.kind ∷ []))
+never_all [] from h = absurd (none-some _ (h []))
+never_all (w ∷ []) from h = absurd (none-some _ (sym (word_passes w.kind (record { place = w.place; bytes = w.bytes }) [] []) ∙ h (word w.kind ∷ [])))
 never_all (w ∷ v ∷ vs) from h =
-    let a : w ∷ v ∷ vs ≡ from = some_same (h []) in
-    let b : v ∷ vs ≡ from = some_same (sym (word_passes w.kind (record { place = w.place; bytes = w.bytes }) [] (v ∷ vs)) ∙ h (word w.kind ∷ [])) in
+    let a : w ∷ v ∷ vs ≡ from = some_inj _ _ (h []) in
+    let b : v ∷ vs ≡ from = some_inj _ _ (sym (word_passes w.kind (record { place = w.place; bytes = w.bytes }) [] (v ∷ vs)) ∙ h (word w.kind ∷ [])) in
     omega (arith, ap length a, ap length b)
 
 fails_unseen : (k : Kind) (p : Parser) {e : Unexpected} → Fails p (word k) e → kind_at (rest p) ≡ Some k → ⊥
@@ -180,7 +169,7 @@ fails_unseen k p f e =
     never_all w.1 f.from (λ α. sym (word_passes k w.0 α w.1) ∙ ap (runs (word k ∷ α)) (sym w.2) ∙ f.stuck α)
 
 fails_from : (k : Kind) (p : Parser) {e : Unexpected} (f : Fails p (word k) e) → rest p ≡ f.from
-fails_from k p f = some_same (sym (word_stops k [] (rest p) (fails_unseen k p f)) ∙ f.stuck [])
+fails_from k p f = some_inj _ _ (sym (word_stops k [] (rest p) (fails_unseen k p f)) ∙ f.stuck [])
 
 no_pair_word : (b : Bool) (k : Kind) → (b ≡ true → (is kind.Add k ≡ false) × (is kind.Rem k ≡ false)) → ((is kind.Add k || is kind.Rem k) && b) ≡ false
 no_pair_word true k h = let a = (h refl).0 in let r = (h refl).1 in simp (a, r)
@@ -218,17 +207,34 @@ pairing_doing doing.Rem = refl
 
 pub pairing_bare : (f : Found) (ws : List Token) (x : Doing) → pairing_at f ws ≡ Some x → f ≡ found.Bare
 pairing_bare found.Bare ws x e = refl
-pairing_bare (found.Inner n) ws x e = not_none e
-pairing_bare found.Done ws x e = not_none e
-pairing_bare found.Plain ws x e = not_none e
+pairing_bare (found.Inner n) ws x e = absurd (none-some _ e)
+pairing_bare found.Done ws x e = absurd (none-some _ e)
+pairing_bare found.Plain ws x e = absurd (none-some _ e)
+
+-- none of two kinds comes, where one is asked for after the other
+neither : {A : Type 0} (j k : Kind) (x y : A) (ws : List Token) → cond (seen j ws) (Some x) (cond (seen k ws) (Some y) None) ≡ None → (kind_at ws ≡ Some j → ⊥) × (kind_at ws ≡ Some k → ⊥)
+neither {A} j k x y ws e = go (seen j ws) (seen k ws) (unseen_first j ws) (unseen_first k ws) e
+  where
+    go : (a b : Bool) → (a ≡ false → kind_at ws ≡ Some j → ⊥) → (b ≡ false → kind_at ws ≡ Some k → ⊥) → ◌≡◌ {A = Option A} (cond a (Some x) (cond b (Some y) None)) None → (kind_at ws ≡ Some j → ⊥) × (kind_at ws ≡ Some k → ⊥)
+    go true b f g e = absurd (none-some _ (sym e))
+    go false true f g e = absurd (none-some _ (sym e))
+    go false false f g e = (f refl, g refl)
 
 pub no_pairing : (f : Found) (ws : List Token) → pairing_at f ws ≡ None → alone_is (form_of f) ≡ true → (kind_at ws ≡ Some kind.Add → ⊥) × (kind_at ws ≡ Some kind.Rem → ⊥)
-no_pairing found.Bare ws e h = go (seen kind.Add ws) (seen kind.Rem ws) (unseen_first kind.Add ws) (unseen_first kind.Rem ws) e
+no_pairing found.Bare ws e h = neither kind.Add kind.Rem doing.Add doing.Rem ws e
+no_pairing (found.Inner n) ws e h = absurd (false≢true h)
+no_pairing found.Done ws e h = absurd (false≢true h)
+no_pairing found.Plain ws e h = absurd (false≢true h)
+
+-- `from` and `to`
+pub no_end : (ws : List Token) → end_at ws ≡ None → (kind_at ws ≡ Some kind.From → ⊥) × (kind_at ws ≡ Some kind.To → ⊥)
+no_end ws e = neither kind.From kind.To side.From side.To ws e
+
+pub end_some : (ws : List Token) (x : Side) → end_at ws ≡ Some x → (y : tree.End) × (kind_at ws ≡ Some (end_kind y)) × (x ≡ side_of y)
+end_some ws x e = go (seen kind.From ws) (seen kind.To ws) (seen_first kind.From ws) (seen_first kind.To ws) e
   where
-    go : (a b : Bool) → (a ≡ false → kind_at ws ≡ Some kind.Add → ⊥) → (b ≡ false → kind_at ws ≡ Some kind.Rem → ⊥) → cond a (Some doing.Add) (cond b (Some doing.Rem) None) ≡ None → (kind_at ws ≡ Some kind.Add → ⊥) × (kind_at ws ≡ Some kind.Rem → ⊥)
-    go true b f g e = not_none (sym e)
-    go false true f g e = not_none (sym e)
-    go false false f g e = (f refl, g refl)
-no_pairing (found.Inner n) ws e h = never_true h
-no_pairing found.Done ws e h = never_true h
-no_pairing found.Plain ws e h = never_true h
+    go : (a b : Bool) → (a ≡ true → kind_at ws ≡ Some kind.From) → (b ≡ true → kind_at ws ≡ Some kind.To) → cond a (Some side.From) (cond b (Some side.To) None) ≡ Some x
+        → (y : tree.End) × (kind_at ws ≡ Some (end_kind y)) × (x ≡ side_of y)
+    go true b f g e = (tree.from, f refl, sym (some_inj _ _ e))
+    go false true f g e = (tree.to, g refl, sym (some_inj _ _ e))
+    go false false f g e = absurd (none-some _ e)

@@ -1,5 +1,6 @@
 -- From whatever is expected, some words lead to the end.
 use Rattle.std.proofs.Common.{◌≡◌, Bool, true, false, cond, List, [], ◌∷◌, map, Some, None, refl, ap, ◌∙◌}
+use Rattle.std.proofs.lemmas.Option.{none-some}
 use Rattle.std.proofs.lemmas.Bool.{false≢true}
 use Rattle.words.specs.declared.kind.Kind.{Kind}
 use Rattle.words.specs.declared.kind.Kind.TheVariants as kind
@@ -8,7 +9,7 @@ use Rattle.words.specs.Words.{Token}
 use Rattle.grammar.specs.Trees.{tok}
 use Rattle.grammar.specs.Machine.{Use, whole, operand, acting, Form, inner, done, Sym, word, start, more, dotted, named, typed, decls, members, member, body, opening, stmts, closes, begin, onward, after_dot, type_then, statement, step, ends}
 use Rattle.grammar.specs.Exact.{Begins, marked}
-use Rattle.grammar.proofs.Accepting.{Accepts, Stuck, some_inj, not_none}
+use Rattle.grammar.proofs.Accepting.{Accepts, Stuck, some_inj}
 use Rattle.grammar.proofs.WordKinds.{is_same, is_true}
 use Rattle.grammar.proofs.Moves.{Moves, moves, this_word, start_name, start_literal, start_new, start_paren, more_dot, more_colon, more_equal, more_assign, more_over, dotted_name, dotted_end, dotted_pair, named_call, named_over, typed_boolean, typed_set, typed_row, decls_class, decls_relationship, decls_over, members_typed, members_over, member_field, member_method, body_boolean, body_set, body_name, body_over, opening_row, opening_act, stmts_if, stmts_act, stmts_over}
 
@@ -58,7 +59,7 @@ word_only j k α β e = go (is j k) refl e
   where
     go : (b : Bool) → is j k ≡ b → cond b (Some α) None ≡ Some β → (k ≡ j) × (α ≡ β)
     go true t e = (is_true j k t, some_inj α β e)
-    go false t e = not_none β e
+    go false t e = absurd (none-some β e)
 
 pub skip : {γ : Sym} {α : List Sym} (vs : List Token) → Skips γ → Shut α → Accepts α vs → Accepts (γ ∷ α) vs
 unfolding ends

@@ -1,5 +1,6 @@
 -- How the parts of an item join.
-use Rattle.std.proofs.Common.{◌≡◌, ℕ, zero, suc, ◌+◌, ◌≤◌, Bool, true, false, List, [], ◌∷◌, ◌++◌, length, replicate, Some, sym, refl, ap, ◌∙◌, subst, append_assoc, append-nil, arith, length-append}
+use Rattle.std.proofs.Common.{◌≡◌, ℕ, zero, suc, ◌+◌, ◌≤◌, Bool, true, false, List, [], ◌∷◌, ◌++◌, length, replicate, Some, None, sym, refl, ap, ◌∙◌, subst, append_assoc, append-nil, arith, length-append}
+use Rattle.std.proofs.lemmas.Option.{none-some}
 use Rattle.words.specs.declared.kind.Kind.{Kind}
 use Rattle.words.specs.declared.kind.Kind.TheVariants as kind
 use Rattle.words.specs.Words.{Token}
@@ -10,9 +11,10 @@ use Rattle.grammar.specs.declared.parser.items.Found.{Found}
 use Rattle.grammar.specs.declared.parser.items.Found.TheVariants as found
 use Rattle.grammar.specs.Events.{events, fed, first_atom, first_item, value_of, doing_of, side_of}
 use Rattle.grammar.specs.Machine.{Sym, word, start, more, dotted, named, step, begin, onward, after_dot, fresh, two, alone_is, settable, Use, whole, operand, Form, bare, inner, done, plain}
-use Rattle.grammar.specs.Told.{rest, kind_at, reads_of, form_of, AfterDot, Named, DottedBare, ReadTarget, Took, Leads, Walk, ReadExpr, ReadItem, HeldBare, HeldInner, ReadDone, Finds, Gone}
+use Rattle.grammar.specs.Told.{rest, kind_at, reads_of, target_of, form_of, AfterDot, Named, DottedBare, ReadTarget, Took, Leads, Walk, ReadExpr, ReadItem, HeldBare, HeldInner, ReadDone, Finds}
 use Rattle.grammar.specs.Trees.{Mark, tok, Sort, many, suffix, Tree, expr, item, atom, creation, place, action, none, name, literal, paren, made, new, pair, member, call, instances, end, chain, inside, alone, equal, assign, calls, creates, spell, literal_kind, pairing_kind, end_kind}
 use Rattle.grammar.specs.Trees as tree
+use Rattle.grammar.proofs.Accepting.{some_inj}
 use Rattle.grammar.proofs.Steps.{step_leads, took_leads, named_done, more_done}
 
 -- events one after another
@@ -57,10 +59,6 @@ module _ {X : Type 0} {after : X → Event → X} where
 module _ {X : Type 0} {after : X → Event → X} where
   pub walk_as : {p q : Parser} {l m : X} {us ws : List Token} {ds es : List Event} → us ≡ ws → ds ≡ es → Walk after p l q m us ds → Walk after p l q m ws es
   walk_as {q = q} {l} e f a = record { words = a.words ∙ ap (λ vs. vs ++ rest q) e; log = a.log ∙ ap (fed after l) f; end_is = a.end_is; shorter = a.shorter }
-
-module _ {X : Type 0} {after : X → Event → X} where
-  pub gone : {p q : Parser} {l m : X} {ws : List Token} {es : List Event} → Walk after p l q m ws es → Gone p q
-  gone a = record { end_is = a.end_is; shorter = a.shorter }
 
 -- one more at the end
 pub put_last : {s : Sort} → Tree (many s) → Tree s → Tree (many s)
@@ -334,7 +332,7 @@ module _ {X : Type 0} {after : X → Event → X} where
   }
 
 module _ {X : Type 0} {after : X → Event → X} where
-  pub bare_target : {p q r : Parser} {l m n : X} {at x : ℕ} → HeldBare after p l q m at → Took kind.Assign q r x → n ≡ after m (event.ToVariable at) → ReadTarget after p l r n
+  bare_target : {p q r : Parser} {l m n : X} {at x : ℕ} → HeldBare after p l q m at → Took kind.Assign q r x → n ≡ after m (event.ToVariable at) → ReadTarget after p l r n
   unfolding step onward spell events
   bare_target {m = m} h t e = record {
     tree = tree.bare h.mark;
@@ -344,7 +342,7 @@ module _ {X : Type 0} {after : X → Event → X} where
   }
 
 module _ {X : Type 0} {after : X → Event → X} where
-  pub inner_target : {p q r : Parser} {l m n : X} {at y x : ℕ} → HeldInner after p l q m at y → Took kind.Assign q r x → n ≡ after m (event.ToMember y at) → ReadTarget after p l r n
+  inner_target : {p q r : Parser} {l m n : X} {at y x : ℕ} → HeldInner after p l q m at y → Took kind.Assign q r x → n ≡ after m (event.ToMember y at) → ReadTarget after p l r n
   unfolding step onward spell events
   inner_target {m = m} h t e = record {
     tree = inside h.tree h.dot h.name;
@@ -352,6 +350,20 @@ module _ {X : Type 0} {after : X → Event → X} where
     walk = walk_put _ (walk_took h.walk t) (e ∙ (λ i. after m (event.ToMember (sym h.name_is i) (sym h.first_is i))));
     leads = λ α. h.leads whole α ∙ step_leads kind.Assign (more whole inner ∷ α) (start whole ∷ α) refl t;
   }
+
+module _ {X : Type 0} (after : X → Event → X) where
+  pub target_read : (f : Found) (p q : Parser) (l m : X) (at : ℕ) (e : Event) {r : Parser} {n : X} {x : ℕ} → target_of f at ≡ Some e → Finds after p l at f q m → Took kind.Assign q r x → n ≡ after m e → ReadTarget after p l r n
+  target_read found.Bare p q l m at e s h t put = bare_target h t (put ∙ ap (after m) (sym (some_inj _ _ s)))
+  target_read (found.Inner y) p q l m at e s h t put = inner_target h t (put ∙ ap (after m) (sym (some_inj _ _ s)))
+  target_read found.Done p q l m at e s h t put = absurd (none-some e s)
+  target_read found.Plain p q l m at e s h t put = absurd (none-some e s)
+
+-- what is no target cannot be assigned to
+pub no_target : (f : Found) (at : ℕ) → target_of f at ≡ None → settable (form_of f) ≡ false
+no_target found.Bare at e = absurd (none-some _ (sym e))
+no_target (found.Inner y) at e = absurd (none-some _ (sym e))
+no_target found.Done at e = refl
+no_target found.Plain at e = refl
 
 -- targets read so far: whatever expression follows, the whole is an expression
 pub record Chained {X : Type 0} (after : X → Event → X) (s : Parser) (l : X) (p : Parser) (m : X) (n : ℕ) : Type 0 where

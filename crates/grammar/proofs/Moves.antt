@@ -1,5 +1,6 @@
 -- The machine's steps as rules, one for each way on.
 use Rattle.std.proofs.Common.{◌≡◌, Bool, true, false, cond, ◌&&◌, ◌||◌, List, [], ◌∷◌, Some, None, Option, sym, refl, subst}
+use Rattle.std.proofs.lemmas.Option.{none-some}
 use Rattle.std.proofs.lemmas.Bool.{and_parts, false≢true}
 use Rattle.words.specs.declared.kind.Kind.{Kind}
 use Rattle.words.specs.declared.kind.Kind.TheVariants as kind
@@ -7,7 +8,7 @@ use Rattle.words.specs.Kinds.{is}
 use Rattle.grammar.specs.Trees.{Literal, literal_kind, Pairing, pairing_kind, End, end_kind}
 use Rattle.grammar.specs.Trees as tree
 use Rattle.grammar.specs.Machine.{Use, whole, operand, acting, Form, bare, inner, done, plain, Sym, word, start, more, dotted, named, typed, decls, members, member, body, opening, stmts, two, fresh, inner_set, branches, method_rest, class_rest, relationship_rest, settable, alone_is, closes, compares, assigns, literal_word, begin, onward, after_dot, type_then, statement, step}
-use Rattle.grammar.proofs.Accepting.{some_inj, not_none}
+use Rattle.grammar.proofs.Accepting.{some_inj}
 use Rattle.grammar.proofs.WordKinds.{is_true}
 
 pub data Moves : List Sym → Kind → List Sym → Type 0 where
@@ -59,7 +60,7 @@ at : {α : List Sym} {k : Kind} {β x : List Sym} (j : Kind) (y : Option (List S
 at {k = k} {x = x} j y e h g = on (is j k) x y e (λ t. known j k t h) g
 
 none : {α β : List Sym} {k : Kind} → ◌≡◌ {A = Option (List Sym)} None (Some β) → Moves α k β
-none {β = β} e = not_none β e
+none {β = β} e = absurd (none-some β e)
 
 or_cases : {A : Type 0} (a b : Bool) → (a || b) ≡ true → (a ≡ true → A) → (b ≡ true → A) → A
 or_cases true b e f g = f refl

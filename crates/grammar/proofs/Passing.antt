@@ -1,5 +1,11 @@
 -- One word is passed, or cannot come.
-use Rattle.std.proofs.Common.{◌≡◌, ℕ, ◌+◌, ◌≤◌, true, false, List, [], ◌∷◌, length, Some, None, Option, sym, refl, ap, ◌∙◌, arith}
+use Rattle.std.proofs.Common.{◌≡◌, ℕ, ◌≤◌, true, false, List, [], ◌∷◌, length, Some, None, Option, sym, refl, ap, ◌∙◌, arith, rules}
+use Rattle.std.proofs.lemmas.Option.{none-some}
+use Rattle.std.proofs.lemmas.Bool.{false≢true}
+use Rattle.std.proofs.lemmas.Bool.Decides.{same_from_decides}
+use Rattle.std.specs.Option.{option_eq}
+use denote.Enum.Bare.{sameb, same_true, true_same}
+use Rattle.words.specs.contracts.kind.Kind.{the_type}
 use Rattle.words.specs.declared.kind.Kind.{Kind}
 use Rattle.words.specs.declared.cursor.Cursor.{Cursor}
 use Rattle.words.specs.declared.cursor.Word.{Word}
@@ -8,39 +14,14 @@ use Rattle.words.specs.Words.{Token, unread, Reads}
 use Rattle.grammar.specs.declared.parser.Parser.{Parser}
 use Rattle.grammar.specs.declared.parser.reading.Unexpected.{Unexpected}
 use Rattle.grammar.specs.Machine.{Sym, word, runs, step, ends}
-use Rattle.grammar.specs.Told.{from_word, rest, kind_at, seen, place_at, Passed, Took, Fails}
+use Rattle.grammar.specs.Told.{rest, kind_at, seen, place_at, Passed, Took, Fails}
 use Rattle.grammar.specs.Trees.{Mark, tok}
 use Rattle.grammar.proofs.WordKinds.{is_same, is_other, is_true}
-
--- impossible
-pub never : {A : Type 0} → ◌≡◌ {A = ℕ} 0 1 → A
-never e = absurd (omega arith)
-
-pub never_true : {A : Type 0} → false ≡ true → A
-never_true e = let z : ◌≡◌ {A = ℕ} 0 1 = cc in never z
-
-next_is : (r : Option Word) (c d : Cursor) → Reads c r d → from_word r d ≡ unread c
-next_is None c d e = sym e.0
-next_is (Some w) c d e = sym e
-
-pub advanced : (p q : Parser) → Reads p.cursor q.word q.cursor → q.end ≡ p.end → Passed p q
-advanced p q e n = record { rest_is = go p.word p.cursor (next_is q.word p.cursor q.cursor e); end_is = n }
-  where
-    go : (w : Option Word) (c : Cursor) → rest q ≡ unread c → (t : Token) (ts : List Token) → from_word w c ≡ t ∷ ts → rest q ≡ ts
-    go None c h t ts f = let z : ◌≡◌ {A = ℕ} 0 1 = cc in never z
-    go (Some x) c h t ts f = let g : unread c ≡ ts = cc in h ∙ g
 
 -- what is left is no more than before
 pub fewer : (c d : Cursor) (r : Option Word) (n : ℕ) → Reads c r d → length (unread c) ≤ n → length (unread d) ≤ n
 fewer c d None n e h = omega (arith, ap length e.1)
 fewer c d (Some w) n e h = omega (arith, ap length e)
-
-pub rest_few : (p : Parser) → length (rest p) ≤ length (unread p.cursor) + 1
-rest_few p = go p.word p.cursor
-  where
-    go : (w : Option Word) (c : Cursor) → length (from_word w c) ≤ length (unread c) + 1
-    go None c = omega arith
-    go (Some w) c = omega arith
 
 -- a word that is expected
 pub word_passes : (k : Kind) (m : Mark) (α : List Sym) (ws : List Token) → runs (word k ∷ α) (tok k m ∷ ws) ≡ runs α ws
@@ -55,16 +36,25 @@ word_stops k α (w ∷ ws) ne = let h : is k w.kind ≡ false = is_other k w.kin
 
 -- the first word, by its kind
 pub first_word : (k : Kind) (ws : List Token) → kind_at ws ≡ Some k → (m : Mark) × (us : List Token) × (ws ≡ tok k m ∷ us)
-first_word k [] e = let z : ◌≡◌ {A = ℕ} 0 1 = cc in never z
+first_word k [] e = absurd (none-some k e)
 first_word k (w ∷ ws) e = let f : w.kind ≡ k = cc in (record { place = w.place; bytes = w.bytes }, ws, λ i. record { kind = f i; place = w.place; bytes = w.bytes } ∷ ws)
 
 pub seen_first : (k : Kind) (ws : List Token) → seen k ws ≡ true → kind_at ws ≡ Some k
-seen_first k [] e = never_true e
+seen_first k [] e = absurd (false≢true e)
 seen_first k (w ∷ ws) e = ap Some (is_true k w.kind e)
 
+first_seen : (k : Kind) (ws : List Token) → kind_at ws ≡ Some k → seen k ws ≡ true
+first_seen k [] e = absurd (none-some k e)
+first_seen k (w ∷ ws) e = let g : k ≡ w.kind = cc in is_same k w.kind g
+
 pub unseen_first : (k : Kind) (ws : List Token) → seen k ws ≡ false → kind_at ws ≡ Some k → ⊥
-unseen_first k [] e f = let z : ◌≡◌ {A = ℕ} 0 1 = cc in never z
-unseen_first k (w ∷ ws) e f = let g : k ≡ w.kind = cc in never_true (sym e ∙ is_same k w.kind g)
+unseen_first k ws e f = absurd (false≢true (sym e ∙ first_seen k ws f))
+
+pub seen_is : (k : Kind) (ws : List Token) → option_eq (sameb the_type) (kind_at ws) (Some k) ≡ seen k ws
+seen_is k [] = refl
+seen_is k (w ∷ ws) =
+    same_from_decides (sameb the_type w.kind k) (is k w.kind)
+    (same_true the_type (search rules) w.kind k, true_same the_type w.kind k) (is_true k w.kind, λ e. is_same k w.kind (sym e))
 
 -- the next word is of kind k, and is passed
 pub took : (k : Kind) (p q : Parser) → kind_at (rest p) ≡ Some k → Passed p q → Took k p q (place_at p.end (rest p))

@@ -1,5 +1,5 @@
 -- Words have at most one expression at their beginning.
-use Rattle.std.proofs.Common.{◌≡◌, ℕ, ◌≤◌, List, ◌∷◌, sym, refl, ap, ◌∙◌, inl, inr, arith}
+use Rattle.std.proofs.Common.{◌≡◌, ◌≤◌, List, ◌∷◌, sym, refl, ap, ◌∙◌, inl, inr, arith}
 use Rattle.words.specs.declared.kind.Kind.TheVariants as kind
 use Rattle.grammar.specs.Trees.{Pairing, pairing_kind}
 use Rattle.grammar.specs.Trees.{Sort, expr, item, atom, creation, suffix, place, many}
@@ -99,8 +99,8 @@ more_same : (s t : Tree suffix) (ss ts : Tree (many suffix)) → more s ss ≡ m
 more_same s t ss ts e = (ap (first s) e, ap others e)
 
 never_none : {A : Type 0} (s : Tree suffix) (ss us : Tree (many suffix)) → join ss (more s us) ≡ none → A
-never_none s none us e = let z : ◌≡◌ {A = ℕ} 0 1 = cc in absurd (omega arith)
-never_none s (more t ss) us e = let z : ◌≡◌ {A = ℕ} 0 1 = cc in absurd (omega arith)
+never_none s none us e = let z : ⊥ = cc in absurd z
+never_none s (more t ss) us e = let z : ⊥ = cc in absurd z
 
 -- suffixes with one more at the end are the same only if both parts are
 join_same : (s t : Tree suffix) (ss us : Tree (many suffix)) → join ss (more s none) ≡ join us (more t none) → (ss ≡ us) × (s ≡ t)

@@ -5,6 +5,10 @@ use Rattle.words.specs.Words.{Token}
 use Rattle.grammar.specs.declared.event.TypeWord.{TypeWord}
 use Rattle.grammar.specs.declared.event.Event.{Event}
 use Rattle.grammar.specs.declared.parser.Parser.{Parser}
+use Rattle.grammar.specs.declared.parser.declarations.Ends.{Ends}
+use Rattle.grammar.specs.declared.parser.declarations.Heading.{Heading}
+use Rattle.grammar.specs.declared.parser.declarations.Section.{Section}
+use Rattle.grammar.specs.declared.parser.declarations.Section.TheVariants as section
 use Rattle.grammar.specs.declared.parser.reading.Unexpected.{Unexpected}
 use Rattle.grammar.specs.Events.{events, fed, first_place, first_action, type_of}
 use Rattle.grammar.specs.Machine.{Sym, word, start, typed as type-symbol, decls, members, member, body, stmts, acting, whole, runs}
@@ -119,8 +123,8 @@ pub record ReadHeading (p q : Parser) (n parent : ℕ) : Type 0 where
   pub parent_is : parent_name.place ≡ parent
   pub leads : (α : List Sym) → runs (word kind.Name ∷ word kind.Extends ∷ word kind.Name ∷ α) (rest p) ≡ runs α (rest q)
 
-abbrev pub GivesHeading : Parser → Result (ℕ × ℕ) Unexpected → Parser → Type 0
-GivesHeading p (Ok x) q = ReadHeading p q x.0 x.1
+abbrev pub GivesHeading : Parser → Result Heading Unexpected → Parser → Type 0
+GivesHeading p (Ok x) q = ReadHeading p q x.name x.parent
 GivesHeading p (Err e) q = FailsAll p (λ α. word kind.Name ∷ word kind.Extends ∷ word kind.Name ∷ α) e
 
 -- the names of two ends in brackets are read
@@ -136,8 +140,8 @@ pub record ReadEnds (p q : Parser) (first second : ℕ) : Type 0 where
   pub two_is : two.place ≡ second
   pub leads : (α : List Sym) → runs (word kind.OpenParen ∷ word kind.Name ∷ word kind.Comma ∷ word kind.Name ∷ word kind.CloseParen ∷ α) (rest p) ≡ runs α (rest q)
 
-abbrev pub GivesEnds : Parser → Result (ℕ × ℕ) Unexpected → Parser → Type 0
-GivesEnds p (Ok x) q = ReadEnds p q x.0 x.1
+abbrev pub GivesEnds : Parser → Result Ends Unexpected → Parser → Type 0
+GivesEnds p (Ok x) q = ReadEnds p q x.first x.second
 GivesEnds p (Err e) q = FailsAll p (λ α. word kind.OpenParen ∷ word kind.Name ∷ word kind.Comma ∷ word kind.Name ∷ word kind.CloseParen ∷ α) e
 
 -- a declaration's braces, fields and methods
@@ -160,13 +164,18 @@ pub record ReadBoth {X : Type 0} (after : X → Event → X) (p : Parser) (l : X
   pub path : Path after p l q m (spell fields ++ spell methods) (events 0 fields ++ events 0 methods)
   pub leads : Leads p (members true) q (λ α. members false ∷ α)
 
--- fields alone are read, and fields may still come; or fields and then methods
-abbrev pub Gathered : {X : Type 0} → (X → Event → X) → Bool → Parser → X → Parser → X → Type 0
-Gathered after true p l q m = ReadTree after (many variable) p l q m (members true) (λ α. members true ∷ α)
-Gathered after false p l q m = ReadBoth after p l q m
+-- whether a field may come
+abbrev pub fields_in : Section → Bool
+fields_in section.Fields = true
+fields_in section.Methods = false
 
-abbrev pub GivesMember : {X : Type 0} → (X → Event → X) → Parser → X → Result Bool Unexpected → Parser → X → Type 0
-GivesMember after p l (Ok b) q m = Gathered after b p l q m
+-- fields alone are read, and fields may still come; or fields and then methods
+abbrev pub Gathered : {X : Type 0} → (X → Event → X) → Section → Parser → X → Parser → X → Type 0
+Gathered after section.Fields p l q m = ReadTree after (many variable) p l q m (members true) (λ α. members true ∷ α)
+Gathered after section.Methods p l q m = ReadBoth after p l q m
+
+abbrev pub GivesMember : {X : Type 0} → (X → Event → X) → Parser → X → Result Section Unexpected → Parser → X → Type 0
+GivesMember after p l (Ok x) q m = Gathered after x p l q m
 GivesMember after p l (Err e) q m = Fails p (members true) e
 
 abbrev pub Falls : {A : Type 0} → Parser → Result A Unexpected → Parser → Type 0

@@ -10,10 +10,15 @@ use Rattle.grammar.specs.declared.parser.Parser.{Parser}
 use Rattle.grammar.specs.declared.parser.reading.Unexpected.{Unexpected}
 use Rattle.grammar.specs.declared.parser.items.Found.{Found}
 use Rattle.grammar.specs.declared.parser.items.Found.TheVariants as found
+use Rattle.grammar.specs.declared.parser.items.Item.{Item}
+use Rattle.grammar.specs.declared.parser.items.Part.{Part}
+use Rattle.grammar.specs.declared.parser.items.Part.TheVariants as part
 use Rattle.grammar.specs.declared.event.Literal.{Literal as Value}
 use Rattle.grammar.specs.declared.event.Literal.TheVariants as value
 use Rattle.grammar.specs.declared.event.Pairing.{Pairing as Doing}
 use Rattle.grammar.specs.declared.event.Pairing.TheVariants as doing
+use Rattle.grammar.specs.declared.event.End.{End as Side}
+use Rattle.grammar.specs.declared.event.End.TheVariants as side
 use Rattle.grammar.specs.declared.event.Event.{Event}
 use Rattle.grammar.specs.declared.event.Event.TheVariants as event
 use Rattle.grammar.specs.Events.{events, fed, first_item, first_action}
@@ -145,8 +150,13 @@ abbrev pub GivesItem : {X : Type 0} → (X → Event → X) → Parser → X →
 GivesItem after p l at (Ok f) q m = Finds after p l at f q m
 GivesItem after p l at (Err e) q m = FailsItem p e
 
+-- the same, with the place of its first word
+abbrev pub GivesWhole : {X : Type 0} → (X → Event → X) → Parser → X → Result Item Unexpected → Parser → X → Type 0
+GivesWhole after p l (Ok i) q m = Finds after p l i.place i.found q m
+GivesWhole after p l (Err e) q m = FailsItem p e
+
 -- the words that end an item
-abbrev pub Ended : Result Found Unexpected → Parser → Type 0
+abbrev pub Ended : {A : Type 0} → Result A Unexpected → Parser → Type 0
 Ended (Ok f) q = (kind_at (rest q) ≢ Some kind.Dot) × (kind_at (rest q) ≢ Some kind.Colon)
 Ended (Err e) q = Unit {0}
 
@@ -170,6 +180,13 @@ reads_of found.Bare at = event.Variable at ∷ []
 reads_of (found.Inner n) at = event.Member n at ∷ []
 reads_of found.Done at = []
 reads_of found.Plain at = []
+
+-- what is reported where an item is a target, if it can be one
+abbrev pub target_of : Found → ℕ → Option Event
+target_of found.Bare at = Some (event.ToVariable at)
+target_of (found.Inner n) at = Some (event.ToMember n at)
+target_of found.Done at = None
+target_of found.Plain at = None
 
 abbrev pub form_of : Found → Form
 form_of found.Bare = bare
@@ -213,9 +230,9 @@ pub record ReadTarget {X : Type 0} (after : X → Event → X) (p : Parser) (l :
   pub leads : Leads p (start whole) q (λ α. start whole ∷ α)
 
 -- a part of an expression is read: a target, after which more comes, or the rest
-abbrev pub GivesPart : {X : Type 0} → (X → Event → X) → Parser → X → Result Bool Unexpected → Parser → X → Type 0
-GivesPart after p l (Ok true) q m = ReadTarget after p l q m
-GivesPart after p l (Ok false) q m = ReadExpr after p l q m
+abbrev pub GivesPart : {X : Type 0} → (X → Event → X) → Parser → X → Result Part Unexpected → Parser → X → Type 0
+GivesPart after p l (Ok part.Target) q m = ReadTarget after p l q m
+GivesPart after p l (Ok part.Last) q m = ReadExpr after p l q m
 GivesPart after p l (Err e) q m = Fails p (start whole) e
 
 -- which of the two may come after a name alone and its dot
@@ -224,6 +241,10 @@ pairing_at found.Bare ws = cond (seen kind.Add ws) (Some doing.Add) (cond (seen 
 pairing_at (found.Inner n) ws = None
 pairing_at found.Done ws = None
 pairing_at found.Plain ws = None
+
+-- which end the first word names
+abbrev pub end_at : List Token → Option Side
+end_at ws = cond (seen kind.From ws) (Some side.From) (cond (seen kind.To ws) (Some side.To) None)
 
 abbrev pub doing_kind : Doing → Kind
 doing_kind doing.Add = kind.Add

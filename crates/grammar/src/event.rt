@@ -1,7 +1,7 @@
 // What a parser reports of a program, in the order of its text. A number is the place of a word: of a name that was
 // read, or under `place` of the first word of what the event is about.
 
-#[derive(Clone, Copy)]
+#[derive(Clone, Copy, PartialEq, Eq, Debug)]
 pub enum Literal {
     True,
     False,
@@ -9,21 +9,22 @@ pub enum Literal {
     This,
 }
 
-#[derive(Clone, Copy)]
+#[derive(Clone, Copy, PartialEq, Eq, Debug)]
 pub enum Pairing {
     Add,
     Rem,
 }
 
-#[derive(Clone, Copy)]
+#[derive(Clone, Copy, PartialEq, Eq, Debug)]
 pub enum End {
     From,
     To,
 }
 
 // A type as it is written: boolean, a set of the row named there, or the row named there.
-#[derive(Clone, Copy)]
+#[derive(Clone, Copy, PartialEq, Eq, Debug, Default)]
 pub enum TypeWord {
+    #[default]
     Boolean,
     SetOf(usize),
     Row(usize),
@@ -31,7 +32,7 @@ pub enum TypeWord {
 
 // The parts of an expression come before it, from the left. A target is what will be assigned to, and `Assigned`
 // completes the last target that is not complete yet. `Bracket` follows an expression in round brackets.
-#[derive(Clone, Copy)]
+#[derive(Clone, Copy, PartialEq, Eq, Debug)]
 pub enum Event {
     Class {
         name: usize,

@@ -1,5 +1,5 @@
 -- What the builder holds after a program's events.
-use Rattle.std.proofs.Common.{◌≡◌, ℕ, ◌+◌, ◌≤◌, min, Bool, true, false, ltb, List, [], ◌∷◌, reverse, length, None, Option, sym, refl, ap, ◌∙◌, subst, arith}
+use Rattle.std.proofs.Common.{◌≡◌, ℕ, ◌+◌, ◌<◌, ◌≤◌, min, Bool, true, false, ltb, List, [], ◌∷◌, reverse, length, None, Option, sym, refl, ap, ◌∙◌, subst, arith}
 use Rattle.std.proofs.lemmas.List.{length-reverse}
 use Rattle.std.proofs.lemmas.Bool.{both_ways}
 use Rattle.std.proofs.lemmas.Bool.Decides.{nat_tests}
@@ -7,6 +7,8 @@ use Rattle.grammar.specs.declared.event.Event.{Event}
 use Rattle.grammar.specs.Events.{events, fed}
 use Rattle.grammar.specs.Trees.{Program}
 use Rattle.outline.specs.declared.builder.Builder.{Builder}
+use Rattle.outline.specs.declared.limit.Limit.{Limit}
+use Rattle.outline.specs.declared.limit.Limit.TheVariants as limit
 use Rattle.outline.specs.Building.{built}
 use Rattle.outline.specs.Built.{Empty, limit_of}
 use Rattle.outline.specs.Contents.{contents}
@@ -39,13 +41,16 @@ tracks_empty b e =
       fine = record { opened = omega arith; variables = λ h. omega arith; newest = λ h f. absurd (both_ways false refl f); locals = λ f. omega arith };
       same =
           λ m. record {
-            classes = record { is = e.classes };
-            relationships = record { is = e.relationships };
-            fields = record { is = e.fields };
-            methods = record { is = e.methods };
-            variables = record { is = e.variables };
-            nodes = record { is = e.nodes };
-            blocks = record { is = e.blocks };
+            tables =
+                record {
+                  classes = record { is = e.classes };
+                  relationships = record { is = e.relationships };
+                  fields = record { is = e.fields };
+                  methods = record { is = e.methods };
+                  variables = record { is = e.variables };
+                  nodes = record { is = e.nodes };
+                  blocks = record { is = e.blocks };
+                };
             opened = record { is = e.opened };
             owner = ap (λ t. t.owner) e.tally;
             tallest = ap (λ t. t.tallest) e.tally;
@@ -67,10 +72,10 @@ builds t b c e p =
       tracks = subst D g.leads.is (subst C (sym p) (tracks_events (events 0 t) b (draft nothing [] 0 0 0 0) (tracks_empty b e)));
     }
 
-capped : (limit m n : ℕ) → m ≡ min n (limit + 1) → ltb limit m ≡ ltb limit n
-capped limit m n e = grind (arith, nat_tests)
+capped : (limit most m n : ℕ) → limit < most → m ≡ min n most → ltb limit m ≡ ltb limit n
+capped limit most m n h e = grind (arith, nat_tests)
 
-chain : (a b : Bool) (n : ℕ) (x y : Option ℕ) → a ≡ b → (b ≡ false → x ≡ y) → passed a n x ≡ passed b n y
+chain : (a b : Bool) (n : Limit) (x y : Option Limit) → a ≡ b → (b ≡ false → x ≡ y) → passed a n x ≡ passed b n y
 chain true true n x y e f = refl
 chain true false n x y e f = absurd (both_ways false refl (sym e))
 chain false true n x y e f = absurd (both_ways false refl e)
@@ -79,8 +84,8 @@ chain false false n x y e f = f refl
 in_limit : (limit n : ℕ) → ltb limit n ≡ false → n ≤ limit
 in_limit limit n e = grind (arith, nat_tests)
 
-test : (limit m : ℕ) {X : Type 0} (xs : List X) → m ≡ min (length xs) (limit + 1) → ltb limit m ≡ ltb limit (length (reverse xs))
-test limit m xs e = capped limit m (length xs) e ∙ ap (ltb limit) (sym (length-reverse xs))
+test : (limit most m : ℕ) {X : Type 0} (xs : List X) → limit < most → m ≡ min (length xs) most → ltb limit m ≡ ltb limit (length (reverse xs))
+test limit most m xs h e = capped limit most m (length xs) h e ∙ ap (ltb limit) (sym (length-reverse xs))
 
 listed_in : (limit : ℕ) {X : Type 0} (xs : List X) → ltb limit (length (reverse xs)) ≡ false → length xs ≤ limit
 listed_in limit xs e = let n = length-reverse xs in let h = in_limit limit (length (reverse xs)) e in omega arith
@@ -91,20 +96,20 @@ unfolding limit_passed contents_of
 same_limits t b g =
     let l = laid 0 t nothing in
     let c = g.tracks.counts in
-    chain _ _ 1 _ _ (test 31 b.tally.classes l.classes c.classes) (λ h1.
-    chain _ _ 2 _ _ (test 31 b.tally.relationships l.relationships c.relationships) (λ h2.
-    chain _ _ 3 _ _ (test 128 b.tally.fields l.fields c.fields) (λ h3.
-    chain _ _ 4 _ _ (test 64 b.tally.methods l.methods c.methods) (λ h4.
-    chain _ _ 5 _ _ (capped 12 b.tally.most (crowd 0 t) c.most) (λ h5.
-    chain _ _ 6 _ _ (test 2048 b.tally.nodes l.nodes (c.nodes ∙ plain (length l.nodes))) (λ h6.
+    chain _ _ limit.Classes _ _ (test 31 255 b.tally.classes l.classes (omega arith) c.classes) (λ h1.
+    chain _ _ limit.Relationships _ _ (test 31 255 b.tally.relationships l.relationships (omega arith) c.relationships) (λ h2.
+    chain _ _ limit.Fields _ _ (test 128 255 b.tally.fields l.fields (omega arith) c.fields) (λ h3.
+    chain _ _ limit.Methods _ _ (test 64 255 b.tally.methods l.methods (omega arith) c.methods) (λ h4.
+    chain _ _ limit.Variables _ _ (capped 12 255 b.tally.most (crowd 0 t) (omega arith) c.most) (λ h5.
+    chain _ _ limit.Nodes _ _ (test 2048 65535 b.tally.nodes l.nodes (omega arith) (c.nodes ∙ plain (length l.nodes))) (λ h6.
     let n = listed_in 2048 l.nodes h6 in
     let s = g.tracks.same (record { classes = listed_in 31 l.classes h1; relationships = listed_in 31 l.relationships h2; fields = listed_in 128 l.fields h3; methods = listed_in 64 l.methods h4; nodes = n; count = omega arith; most = in_limit 12 (crowd 0 t) h5 }) in
-    ap (λ y. passed y 7 None) (capped 16 b.tally.tallest (height 0 t) s.tallest)))))))
+    ap (λ y. passed y limit.Height None) (capped 16 255 b.tally.tallest (height 0 t) (omega arith) s.tallest)))))))
   where
-    plain : (n : ℕ) → min (n + 0) 2049 ≡ min n 2049
+    plain : (n : ℕ) → min (n + 0) 65535 ≡ min n 65535
     plain n = omega arith
 
-no_limit : (a : Bool) (n : ℕ) (x : Option ℕ) → passed a n x ≡ None → (a ≡ false) × (x ≡ None)
+no_limit : (a : Bool) (n : Limit) (x : Option Limit) → passed a n x ≡ None → (a ≡ false) × (x ≡ None)
 no_limit true n x e = let z : ◌≡◌ {A = ℕ} 0 1 = cc in absurd (omega arith)
 no_limit false n x e = (refl, e)
 
@@ -113,20 +118,20 @@ pub same_tables : (t : Program) (b : Builder) → Built t b → limit_passed t �
 unfolding limit_passed contents_of
 same_tables t b g e =
     let l = laid 0 t nothing in
-    let h1 = no_limit _ 1 _ e in
-    let h2 = no_limit _ 2 _ h1.1 in
-    let h3 = no_limit _ 3 _ h2.1 in
-    let h4 = no_limit _ 4 _ h3.1 in
-    let h5 = no_limit _ 5 _ h4.1 in
-    let h6 = no_limit _ 6 _ h5.1 in
+    let h1 = no_limit _ limit.Classes _ e in
+    let h2 = no_limit _ limit.Relationships _ h1.1 in
+    let h3 = no_limit _ limit.Fields _ h2.1 in
+    let h4 = no_limit _ limit.Methods _ h3.1 in
+    let h5 = no_limit _ limit.Variables _ h4.1 in
+    let h6 = no_limit _ limit.Nodes _ h5.1 in
     let n = listed_in 2048 l.nodes h6.0 in
     let s = g.tracks.same (record { classes = listed_in 31 l.classes h1.0; relationships = listed_in 31 l.relationships h2.0; fields = listed_in 128 l.fields h3.0; methods = listed_in 64 l.methods h4.0; nodes = n; count = omega arith; most = in_limit 12 (crowd 0 t) h5.0 }) in
     λ i. record {
-      classes = s.classes.is i;
-      relationships = s.relationships.is i;
-      fields = s.fields.is i;
-      methods = s.methods.is i;
-      variables = s.variables.is i;
-      nodes = s.nodes.is i;
-      blocks = s.blocks.is i;
+      classes = s.tables.classes.is i;
+      relationships = s.tables.relationships.is i;
+      fields = s.tables.fields.is i;
+      methods = s.tables.methods.is i;
+      variables = s.tables.variables.is i;
+      nodes = s.tables.nodes.is i;
+      blocks = s.tables.blocks.is i;
     }

@@ -1,18 +1,18 @@
--- Heights that end at 17.
+-- Heights that end at 255.
 use Rattle.std.proofs.Common.{◌≡◌, ℕ, ◌+◌, min, max, arith}
-use Rattle.outline.specs.Drafts.{above}
+use Rattle.outline.specs.Drafts.{raised}
 
 abbrev pub cap : ℕ → ℕ
-cap h = min h 17
+cap h = min h 255
 
-pub cap_above : (h : ℕ) → above (cap h) ≡ cap (h + 1)
-cap_above h = omega arith
+pub cap_raised : (h : ℕ) → raised (cap h) ≡ cap (h + 1)
+cap_raised h = omega arith
 
 pub cap_max : (g h : ℕ) → max (cap g) (cap h) ≡ cap (max g h)
 cap_max g h = omega arith
 
-pub cap_both : (g h : ℕ) → above (max (cap g) (cap h)) ≡ cap (max g h + 1)
+pub cap_both : (g h : ℕ) → raised (max (cap g) (cap h)) ≡ cap (max g h + 1)
 cap_both g h = omega arith
 
-pub cap_settled : (g h : ℕ) → max (cap g) (above (cap h)) ≡ cap (max g (h + 1))
+pub cap_settled : (g h : ℕ) → max (cap g) (raised (cap h)) ≡ cap (max g (h + 1))
 cap_settled g h = omega arith

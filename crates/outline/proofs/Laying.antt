@@ -1,17 +1,17 @@
 -- The events of a tree lay it out.
-use Rattle.std.proofs.Common.{◌≡◌, ℕ, suc, ◌+◌, max, true, false, cond, List, [], ◌∷◌, ◌++◌, sym, refl, ap, ◌∙◌, add-zero, arith}
+use Rattle.std.proofs.Common.{◌≡◌, ℕ, suc, ◌+◌, max, true, false, cond, List, [], ◌∷◌, ◌++◌, Some, None, sym, refl, ap, ◌∙◌, add-zero, arith}
 use Rattle.grammar.specs.declared.event.Event.{Event}
 use Rattle.grammar.specs.declared.event.Event.TheVariants as event
 use Rattle.grammar.specs.Events.{events, fed, first_item, first_atom, type_of}
 use Rattle.grammar.proofs.Items.{fed_append}
 use Rattle.grammar.specs.Trees.{Sort, expr, item, atom, creation, suffix, place, action, stmt, variable, method, decl, many, Tree, none, more, name, literal, paren, made, new, pair, member, call, instances, end, chain, bare, inside, alone, equal, assign, assigns, calls, creates, act, branch, declares, method_of, class, relationship}
 use Rattle.grammar.specs.Trees as tree
-use Rattle.outline.specs.declared.entry.Open.{Open}
+use Rattle.outline.specs.declared.builder.pending.Open.{Open}
 use Rattle.outline.specs.declared.entry.Shape.TheVariants as shape
 use Rattle.outline.specs.Layout.{Layout, laid, add_class, add_relationship, add_declared, add_method, add_node, add_block, next, newest}
 use Rattle.outline.specs.Limits.{height, crowd, how_many}
-use Rattle.outline.specs.Drafts.{Draft, draft, taken, held, to_variable, to_member, heighten, parted, settled_in, above}
-use Rattle.outline.proofs.Heights.{cap, cap_above, cap_both, cap_settled}
+use Rattle.outline.specs.Drafts.{Draft, draft, taken, held, to_variable, to_member, heighten, in_first, parted, settled_in, raised}
+use Rattle.outline.proofs.Heights.{cap, cap_raised, cap_both, cap_settled}
 
 -- the events es lead from d to e
 pub record Leads (d : Draft) (es : List Event) (e : Draft) : Type 0 where
@@ -73,14 +73,14 @@ settles l outside g h c v w = refl
 settles l (within x o k) g h c v w = refl
 
 state_done : (l : Layout) (s : Spot) (h a n x v w : ℕ)
-    → settled_in (opens s (cap h)) (above (cap a)) (at l s (cap h) ((n + x) + 1) v w) ≡ at l s (cap (max h (a + 1))) (suc n + x) v w
+    → settled_in (opens s (cap h)) (raised (cap a)) (at l s (cap h) ((n + x) + 1) v w) ≡ at l s (cap (max h (a + 1))) (suc n + x) v w
 state_done l s h a n x v w =
-    settles l s (cap h) (above (cap a)) ((n + x) + 1) v w
+    settles l s (cap h) (raised (cap a)) ((n + x) + 1) v w
     ∙ ap (λ y. at l s y ((n + x) + 1) v w) (cap_settled h a) ∙ ap (λ c. at l s (cap (max h (a + 1))) c v w) (counted n x)
 
 join_done : (l : Layout) (s : Spot) (h a c v w : ℕ)
-    → settled_in (opens s (cap h)) (above (cap a)) (at l s (cap h) c v w) ≡ at l s (cap (max h (a + 1))) c v w
-join_done l s h a c v w = settles l s (cap h) (above (cap a)) c v w ∙ ap (λ y. at l s y c v w) (cap_settled h a)
+    → settled_in (opens s (cap h)) (raised (cap a)) (at l s (cap h) c v w) ≡ at l s (cap (max h (a + 1))) c v w
+join_done l s h a c v w = settles l s (cap h) (raised (cap a)) c v w ∙ ap (λ y. at l s y c v w) (cap_settled h a)
 
 abbrev Valued : {s : Sort} → Tree s → Type 0
 Valued t =
@@ -136,7 +136,7 @@ mutual
   atom_laid (literal tree.null m) p l o x k v w = by (done _ _ refl)
   atom_laid (literal tree.this m) p l o x k v w = by (done _ _ refl)
   atom_laid (paren q e c) p l o x k v w =
-      then (expr_laid e 0 l o x k v w) (by (ap (λ h. draft (laid 0 e l) (held (newest (laid 0 e l)) h ∷ o) (next (laid 0 e l) + x) k v w) (cap_above (height 0 e))))
+      then (expr_laid e 0 l o x k v w) (by (ap (λ h. draft (laid 0 e l) (held (newest (laid 0 e l)) h ∷ o) (next (laid 0 e l) + x) k v w) (cap_raised (height 0 e))))
   atom_laid (made c) p l o x k v w = creation_laid c 0 l o x k v w
 
   pub creation_laid : (t : Tree creation) → Valued t
@@ -147,11 +147,11 @@ mutual
       then (expr_laid a 0 l o x k v w) (then (expr_laid b 0 _ _ x k v w) (by (done _ _ (cap_both (height 0 a) (height 0 b)))))
 
   pub suffix_laid : (t : Tree suffix) → Suffixed t
-  suffix_laid (member d n) p h l o x k v w = by (done _ _ (cap_above h))
+  suffix_laid (member d n) p h l o x k v w = by (done _ _ (cap_raised h))
   suffix_laid (call d n q e c) p h l o x k v w = then (expr_laid e 0 l _ x k v w) (by (done _ _ (cap_both h (height 0 e))))
-  suffix_laid (instances c n) p h l o x k v w = by (done _ _ (cap_above h))
-  suffix_laid (end tree.from d m) p h l o x k v w = by (done _ _ (cap_above h))
-  suffix_laid (end tree.to d m) p h l o x k v w = by (done _ _ (cap_above h))
+  suffix_laid (instances c n) p h l o x k v w = by (done _ _ (cap_raised h))
+  suffix_laid (end tree.from d m) p h l o x k v w = by (done _ _ (cap_raised h))
+  suffix_laid (end tree.to d m) p h l o x k v w = by (done _ _ (cap_raised h))
 
   pub suffixes_laid : (t : Tree (many suffix)) → Suffixed t
   suffixes_laid none p h l o x k v w = by refl
@@ -178,15 +178,15 @@ mutual
       (by (state_done (laid 0 (act a q) l) s h (height 0 a) (next (laid 0 a l)) x v w))
   stmt_laid (branch i o e c b ss f g j us k q) p h l s x v w =
       let e' = laid 0 e l in
-      let b' = add_node shape.Branch 0 i.place (newest e') 0 e' in
+      let b' = add_node shape.Branch i.place (Some (newest e')) None e' in
       let O = opens s (cap h) in
       let K = tall s (cap h) in
       then (expr_laid e 0 l O x K v w)
       (after (event.Branch i.place)
-      (from (ap (λ c. draft b' (held (next e') (cap (height 0 e)) ∷ O) c K v w) (counted (next e') x))
-      (then (stmts_laid ss 0 (height 0 e) b' (within (held (next e') 0) O K) x v w)
+      (from (ap (λ c. draft b' (in_first (next e') (cap (height 0 e)) ∷ O) c K v w) (counted (next e') x))
+      (then (stmts_laid ss 0 (height 0 e) b' (within (in_first (next e') 0) O K) x v w)
       (after event.Otherwise
-      (then (stmts_laid us 0 (height (height 0 e) ss) (laid 0 ss b') (within (parted (next (laid 0 ss b')) (held (next e') 0)) O K) x v w)
+      (then (stmts_laid us 0 (height (height 0 e) ss) (laid 0 ss b') (within (parted (next (laid 0 ss b')) (in_first (next e') 0)) O K) x v w)
       (by (join_done (laid 0 (branch i o e c b ss f g j us k q) l) s h (height (height (height 0 e) ss) us) (next (laid 0 us (laid 0 ss b')) + x) v w)))))))
 
   stmts_laid : (t : Tree (many stmt)) → Stated t

@@ -1,21 +1,20 @@
 -- What each event does to the builder.
-use Rattle.std.specs.Prelude.{ℕ, ◌+◌, ◌-◌, max, Bool, true, false, cond, length, Some, None, Option, nat_le}
+use Rattle.std.specs.Prelude.{ℕ, ◌+◌, ◌-◌, min, max, Bool, true, false, length, Some, None, Option, unwrap_or}
 use Rattle.grammar.specs.declared.event.TypeWord.{TypeWord}
 use Rattle.grammar.specs.declared.event.Event.{Event}
 use Rattle.grammar.specs.declared.event.Event.TheVariants as event
+use Rattle.values.specs.declared.types.Lineage.{Lineage}
 use Rattle.tables.specs.Listed.{listed, pushed, shortened, newest}
 use Rattle.outline.specs.declared.entry.Shape.{Shape}
 use Rattle.outline.specs.declared.entry.Shape.TheVariants as shape
-use Rattle.outline.specs.declared.entry.Open.{Open}
+use Rattle.outline.specs.declared.builder.pending.Pending.{Pending}
+use Rattle.outline.specs.declared.builder.pending.Pending.TheVariants as pending
+use Rattle.outline.specs.declared.builder.pending.Open.{Open}
 use Rattle.outline.specs.declared.contents.Outline.{Outline}
 use Rattle.outline.specs.declared.builder.Tally.{Tally}
 use Rattle.outline.specs.declared.builder.Builder.{Builder}
 use Rattle.outline.specs.Layout.{row_entry, class_row, relationship_row, field_entry, variable_entry, method_entry, node, block}
-use Rattle.outline.specs.Drafts.{held, to_variable, to_member, heighten, parted, above, value_shape, doing_shape, side_shape}
-
--- one more, but no further than one above the limit
-abbrev pub raised : ℕ → ℕ → ℕ
-raised limit n = cond (nat_le n limit) (n + 1) n
+use Rattle.outline.specs.Drafts.{held, value_of, to_variable, to_member, heighten, in_first, parted, raised, value_shape, doing_shape, side_shape}
 
 abbrev pub building : Outline → Builder → Builder
 building o b = record { outline = o; opened = b.opened; tally = b.tally }
@@ -29,10 +28,10 @@ opening b x = record { outline = b.outline; opened = pushed b.opened x; tally = 
 abbrev pub closing : Builder → Builder
 closing b = record { outline = b.outline; opened = shortened b.opened; tally = b.tally }
 
-abbrev pub in_class : Tally → Tally
-in_class t =
+abbrev pub in_row : Lineage → ℕ → Tally → Tally
+in_row l n t =
     record {
-      classes = raised 31 t.classes;
+      classes = t.classes;
       relationships = t.relationships;
       fields = t.fields;
       methods = t.methods;
@@ -40,7 +39,22 @@ in_class t =
       most = t.most;
       nodes = t.nodes;
       tallest = t.tallest;
-      owner = class_row (raised 31 t.classes);
+      owner = record { lineage = l; number = n };
+      in_method = false;
+    }
+
+abbrev pub in_class : Tally → Tally
+in_class t =
+    record {
+      classes = raised t.classes;
+      relationships = t.relationships;
+      fields = t.fields;
+      methods = t.methods;
+      locals = t.locals;
+      most = t.most;
+      nodes = t.nodes;
+      tallest = t.tallest;
+      owner = class_row (raised t.classes);
       in_method = false;
     }
 
@@ -48,14 +62,14 @@ abbrev pub in_relationship : Tally → Tally
 in_relationship t =
     record {
       classes = t.classes;
-      relationships = raised 31 t.relationships;
+      relationships = raised t.relationships;
       fields = t.fields;
       methods = t.methods;
       locals = t.locals;
       most = t.most;
       nodes = t.nodes;
       tallest = t.tallest;
-      owner = relationship_row (raised 31 t.relationships);
+      owner = relationship_row (raised t.relationships);
       in_method = false;
     }
 
@@ -64,7 +78,7 @@ with_field t =
     record {
       classes = t.classes;
       relationships = t.relationships;
-      fields = raised 128 t.fields;
+      fields = raised t.fields;
       methods = t.methods;
       locals = t.locals;
       most = t.most;
@@ -81,8 +95,8 @@ with_local t =
       relationships = t.relationships;
       fields = t.fields;
       methods = t.methods;
-      locals = raised 12 t.locals;
-      most = max t.most (raised 12 t.locals);
+      locals = raised t.locals;
+      most = max t.most (raised t.locals);
       nodes = t.nodes;
       tallest = t.tallest;
       owner = t.owner;
@@ -95,7 +109,7 @@ with_method t =
       classes = t.classes;
       relationships = t.relationships;
       fields = t.fields;
-      methods = raised 64 t.methods;
+      methods = raised t.methods;
       locals = 2;
       most = max t.most 2;
       nodes = t.nodes;
@@ -113,7 +127,7 @@ with_node t =
       methods = t.methods;
       locals = t.locals;
       most = t.most;
-      nodes = raised 2048 t.nodes;
+      nodes = min (t.nodes + 1) 65535;
       tallest = t.tallest;
       owner = t.owner;
       in_method = t.in_method;
@@ -133,6 +147,9 @@ with_height h t =
       owner = t.owner;
       in_method = t.in_method;
     }
+
+abbrev pub begun : Builder → Lineage → ℕ → Builder
+begun b l n = counting (in_row l n b.tally) b
 
 abbrev pub class_added : Builder → ℕ → ℕ → Builder
 class_added b n p =
@@ -225,8 +242,8 @@ method_added b r n t p =
       tally = with_method b.tally;
     }
 
-abbrev pub node_added : Builder → Shape → ℕ → ℕ → ℕ → ℕ → Builder
-node_added b s n p x y =
+abbrev pub node_added : Builder → Shape → ℕ → Option ℕ → Option ℕ → Builder
+node_added b s p x y =
     record {
       outline =
           record {
@@ -235,7 +252,7 @@ node_added b s n p x y =
             fields = b.outline.fields;
             methods = b.outline.methods;
             variables = b.outline.variables;
-            nodes = pushed b.outline.nodes (node s (last_method b.outline) n p x y);
+            nodes = pushed b.outline.nodes (node s (last_method b.outline) p x y);
             blocks = b.outline.blocks;
           };
       opened = b.opened;
@@ -262,27 +279,23 @@ block_added b n o =
 abbrev pub next_node : Builder → ℕ
 next_node b = length (listed b.outline.nodes)
 
-abbrev pub or_nothing : Option Open → Open
-or_nothing None = held 0 0
-or_nothing (Some x) = x
-
 abbrev pub top_of : Builder → Open
-top_of b = or_nothing (newest (listed b.opened))
+top_of b = unwrap_or (newest (listed b.opened)) (held 0 0)
 
 abbrev pub counted : Builder → Builder
 counted b = counting (with_node b.tally) b
 
-abbrev pub leaf_added : Builder → Shape → ℕ → ℕ → Builder
-leaf_added b s n p = counted (opening (node_added b s n p 0 0) (held (next_node b) 1))
+abbrev pub leaf_added : Builder → Shape → ℕ → Builder
+leaf_added b s p = counted (opening (node_added b s p None None) (held (next_node b) 1))
 
-abbrev pub unary_added : Builder → Shape → ℕ → ℕ → Builder
-unary_added b s n p =
-    counted (opening (node_added (closing b) s n p (top_of b).node 0) (held (next_node b) (above (top_of b).height)))
+abbrev pub unary_added : Builder → Shape → ℕ → Builder
+unary_added b s p =
+    counted (opening (node_added (closing b) s p (value_of (top_of b).pending) None) (held (next_node b) (raised (top_of b).height)))
 
-abbrev pub binary_added : Builder → Shape → ℕ → ℕ → Builder
-binary_added b s n p =
-    counted (opening (node_added (closing (closing b)) s n p (top_of (closing b)).node (top_of b).node)
-    (held (next_node b) (above (max (top_of (closing b)).height (top_of b).height))))
+abbrev pub binary_added : Builder → Shape → ℕ → Builder
+binary_added b s p =
+    counted (opening (node_added (closing (closing b)) s p (value_of (top_of (closing b)).pending) (value_of (top_of b).pending))
+    (held (next_node b) (raised (max (top_of (closing b)).height (top_of b).height))))
 
 -- the topmost is replaced, if there is one
 abbrev pub replaced : Option Open → (Open → Open) → Builder → Builder
@@ -290,7 +303,7 @@ replaced None f b = b
 replaced (Some x) f b = opening (closing b) (f x)
 
 abbrev pub bracketed : Builder → Builder
-bracketed b = replaced (newest (listed b.opened)) (λ x. heighten (above x.height) x) b
+bracketed b = replaced (newest (listed b.opened)) (λ x. heighten (raised x.height) x) b
 
 abbrev pub variable_targeted : Builder → ℕ → Builder
 variable_targeted b p = counted (opening b (to_variable p))
@@ -298,15 +311,13 @@ variable_targeted b p = counted (opening b (to_variable p))
 abbrev pub member_targeted : Builder → ℕ → ℕ → Builder
 member_targeted b n p = counted (replaced (newest (listed b.opened)) (to_member n p) b)
 
-abbrev pub assigning : Builder → Open → Builder
-assigning b e =
-    opening (node_added (closing (closing b)) (cond (top_of (closing b)).member shape.SetMember shape.SetVariable) (top_of (closing b)).name
-    (top_of (closing b)).place (top_of (closing b)).node e.node)
-    (held (next_node b) (above (max (top_of (closing b)).height e.height)))
+abbrev pub assigned_in : Pending → ℕ → Open → Builder → Builder
+assigned_in (pending.Assignment s p a) h e b =
+    opening (node_added b s p a (value_of e.pending)) (held (next_node b) (raised (max h e.height)))
+assigned_in x h e b = b
 
-abbrev pub assigned_in : Option Open → Builder → Builder
-assigned_in None b = b
-assigned_in (Some e) b = assigning b e
+abbrev pub assigned_at : Builder → Builder
+assigned_at b = assigned_in (top_of (closing b)).pending (top_of (closing b)).height (top_of b) (closing (closing b))
 
 abbrev pub settled_at : Option Open → ℕ → Builder → Builder
 settled_at None h b = counting (with_height h b.tally) b
@@ -316,18 +327,21 @@ abbrev pub settling : Builder → ℕ → Builder
 settling b h = settled_at (newest (listed b.opened)) h b
 
 abbrev pub statement_added : Builder → Shape → ℕ → Builder
-statement_added b s p = settling (counted (node_added (closing b) s 0 p (top_of b).node 0)) (above (top_of b).height)
+statement_added b s p = settling (counted (node_added (closing b) s p (value_of (top_of b).pending) None)) (raised (top_of b).height)
 
 abbrev pub branch_added : Builder → ℕ → Builder
 branch_added b p =
-    counted (opening (node_added (closing b) shape.Branch 0 p (top_of b).node 0) (held (next_node b) (top_of b).height))
+    counted (opening (node_added (closing b) shape.Branch p (value_of (top_of b).pending) None) (in_first (next_node b) (top_of b).height))
 
 abbrev pub parting : Builder → Builder
 parting b = replaced (newest (listed b.opened)) (parted (next_node b)) b
 
-abbrev pub joined_in : Option Open → Builder → Builder
-joined_in None b = b
-joined_in (Some x) b = settling (block_added (closing b) x.node x.name) (above x.height)
+abbrev pub joined_in : Pending → ℕ → Builder → Builder
+joined_in (pending.Second n o) h b = settling (block_added b n o) (raised h)
+joined_in x h b = b
+
+abbrev pub joined_at : Builder → Builder
+joined_at b = joined_in (top_of b).pending (top_of b).height (closing b)
 
 abbrev pub declared_in : Bool → Builder → TypeWord → ℕ → Builder
 declared_in true b t n = local_added b t n
@@ -338,21 +352,21 @@ built b (event.Class n p) = class_added b n p
 built b (event.Relationship n p x y) = relationship_added b n p x y
 built b (event.Declared t n) = declared_in b.tally.in_method b t n
 built b (event.Method r n t p) = method_added b r n t p
-built b (event.Variable p) = leaf_added b shape.Variable p p
-built b (event.Literal v p) = leaf_added b (value_shape v) 0 p
-built b (event.New n p) = leaf_added b shape.New n p
-built b (event.Pair x p) = binary_added b (doing_shape x) p p
-built b (event.Member n p) = unary_added b shape.Member n p
-built b (event.Call n p) = binary_added b shape.Call n p
-built b (event.Instances n p) = unary_added b shape.Instances n p
-built b (event.End e p) = unary_added b (side_shape e) 0 p
+built b (event.Variable p) = leaf_added b (shape.Variable p) p
+built b (event.Literal v p) = leaf_added b (value_shape v) p
+built b (event.New n p) = leaf_added b (shape.New n) p
+built b (event.Pair x p) = binary_added b (doing_shape x p) p
+built b (event.Member n p) = unary_added b (shape.Member n) p
+built b (event.Call n p) = binary_added b (shape.Call n) p
+built b (event.Instances n p) = unary_added b (shape.Instances n) p
+built b (event.End e p) = unary_added b (side_shape e) p
 built b event.Bracket = bracketed b
-built b (event.Equal p) = binary_added b shape.Equal 0 p
+built b (event.Equal p) = binary_added b shape.Equal p
 built b (event.ToVariable p) = variable_targeted b p
 built b (event.ToMember n p) = member_targeted b n p
-built b event.Assigned = assigned_in (newest (listed b.opened)) b
+built b event.Assigned = assigned_at b
 built b (event.Acted p) = statement_added b shape.Action p
 built b (event.Branch p) = branch_added b p
 built b event.Otherwise = parting b
-built b event.Joined = joined_in (newest (listed b.opened)) b
+built b event.Joined = joined_at b
 built b (event.Return p) = statement_added b shape.Return p

@@ -1,10 +1,13 @@
 -- The builder before the first event, and the limits that its counts pass.
-use Rattle.std.specs.Prelude.{◌≡◌, ℕ, false, [], None, Option, nat_lt}
+use Rattle.std.specs.Prelude.{◌≡◌, Bool, false, [], Option, nat_lt}
+use Rattle.std.specs.List.{find}
 use Rattle.tables.specs.Listed.{listed}
 use Rattle.outline.specs.declared.builder.Tally.{Tally}
 use Rattle.outline.specs.declared.builder.Builder.{Builder}
+use Rattle.outline.specs.declared.limit.TheConstants.{LIMITS}
+use Rattle.outline.specs.declared.limit.Limit.{Limit}
+use Rattle.outline.specs.declared.limit.Limit.TheVariants as limit
 use Rattle.outline.specs.Layout.{class_row}
-use Rattle.outline.specs.Limits.{passed}
 
 abbrev pub nought : Tally
 nought =
@@ -32,12 +35,15 @@ pub record Empty (b : Builder) : Type 0 where
   pub opened : listed b.opened ≡ []
   pub tally : b.tally ≡ nought
 
-abbrev pub limit_of : Tally → Option ℕ
-limit_of t =
-    passed (nat_lt 31 t.classes) 1
-    (passed (nat_lt 31 t.relationships) 2
-    (passed (nat_lt 128 t.fields) 3
-    (passed (nat_lt 64 t.methods) 4
-    (passed (nat_lt 12 t.most) 5
-    (passed (nat_lt 2048 t.nodes) 6
-    (passed (nat_lt 16 t.tallest) 7 None))))))
+-- the counts pass this limit
+abbrev pub passes : Tally → Limit → Bool
+passes t limit.Classes = nat_lt 31 t.classes
+passes t limit.Relationships = nat_lt 31 t.relationships
+passes t limit.Fields = nat_lt 128 t.fields
+passes t limit.Methods = nat_lt 64 t.methods
+passes t limit.Variables = nat_lt 12 t.most
+passes t limit.Nodes = nat_lt 2048 t.nodes
+passes t limit.Height = nat_lt 16 t.tallest
+
+abbrev pub limit_of : Tally → Option Limit
+limit_of t = find (passes t) LIMITS

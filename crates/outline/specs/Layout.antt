@@ -1,5 +1,5 @@
 -- The tables of a program, from its tree.
-use Rattle.std.specs.Prelude.{ℕ, pred, Bool, true, false, cond, List, [], ◌∷◌, reverse, length}
+use Rattle.std.specs.Prelude.{ℕ, pred, Bool, true, false, cond, List, [], ◌∷◌, reverse, length, Some, None, Option}
 use Rattle.values.specs.declared.types.CellRow.{CellRow}
 use Rattle.values.specs.declared.types.Lineage.TheVariants as lineage
 use Rattle.grammar.specs.declared.event.TypeWord.{TypeWord}
@@ -39,8 +39,8 @@ class_row n = record { lineage = lineage.Class; number = n }
 abbrev pub relationship_row : ℕ → CellRow
 relationship_row n = record { lineage = lineage.Relationship; number = n }
 
-abbrev pub node : Shape → ℕ → ℕ → ℕ → ℕ → ℕ → Node
-node s m n p a b = record { shape = s; method = m; name = n; place = p; left = a; right = b }
+abbrev pub node : Shape → ℕ → ℕ → Option ℕ → Option ℕ → Node
+node s m p a b = record { shape = s; method = m; place = p; left = a; right = b }
 
 abbrev pub block : ℕ → ℕ → ℕ → Block
 block b o j = record { branch = b; otherwise = o; joined = j }
@@ -114,16 +114,16 @@ add_method r n t p l =
       in_method = true;
     }
 
--- a node with a name, a place and two parts
-unfoldable pub add_node : Shape → ℕ → ℕ → ℕ → ℕ → Layout → Layout
-add_node s n p a b l =
+-- a node with a place and the parts that it has
+unfoldable pub add_node : Shape → ℕ → Option ℕ → Option ℕ → Layout → Layout
+add_node s p a b l =
     record {
       classes = l.classes;
       relationships = l.relationships;
       fields = l.fields;
       methods = l.methods;
       variables = l.variables;
-      nodes = node s (pred (length l.methods)) n p a b ∷ l.nodes;
+      nodes = node s (pred (length l.methods)) p a b ∷ l.nodes;
       blocks = l.blocks;
       owner = l.owner;
       in_method = l.in_method;
@@ -156,9 +156,9 @@ literal_shape tree.false = shape.False
 literal_shape tree.null = shape.Null
 literal_shape tree.this = shape.This
 
-abbrev pub pairing_shape : Pairing → Shape
-pairing_shape tree.add = shape.Add
-pairing_shape tree.rem = shape.Rem
+abbrev pub pairing_shape : Pairing → ℕ → Shape
+pairing_shape tree.add n = shape.Add n
+pairing_shape tree.rem n = shape.Rem n
 
 abbrev pub end_shape : End → Shape
 end_shape tree.from = shape.From
@@ -166,27 +166,27 @@ end_shape tree.to = shape.To
 
 -- the assignment to a place whose parts are laid out in x; the value is node v
 abbrev pub add_assigned : Tree place → Layout → ℕ → Layout → Layout
-add_assigned (bare n) x v = add_node shape.SetVariable n.place n.place 0 v
-add_assigned (inside i d n) x v = add_node shape.SetMember n.place (first_item i) (newest x) v
+add_assigned (bare n) x v = add_node (shape.SetVariable n.place) n.place None (Some v)
+add_assigned (inside i d n) x v = add_node (shape.SetMember n.place) (first_item i) (Some (newest x)) (Some v)
 
 -- The tables after a tree, where they were l before it: parts before the whole, from the left. The suffixes of an item
 -- have the place p of its first word.
 unfoldable pub laid : {s : Sort} → ℕ → Tree s → Layout → Layout
 laid p none l = l
 laid p (more t ts) l = laid p ts (laid p t l)
-laid p (name n) l = add_node shape.Variable n.place n.place 0 0 l
-laid p (literal v w) l = add_node (literal_shape v) 0 w.place 0 0 l
+laid p (name n) l = add_node (shape.Variable n.place) n.place None None l
+laid p (literal v w) l = add_node (literal_shape v) w.place None None l
 laid p (paren o e c) l = laid 0 e l
 laid p (made c) l = laid 0 c l
-laid p (new w n o c) l = add_node shape.New n.place w.place 0 0 l
+laid p (new w n o c) l = add_node (shape.New n.place) w.place None None l
 laid p (pair x n d w o a m b c) l =
     let a' = laid 0 a l in
     let b' = laid 0 b a' in
-    add_node (pairing_shape x) n.place n.place (newest a') (newest b') b'
-laid p (member d n) l = add_node shape.Member n.place p (newest l) 0 l
-laid p (call d n o e c) l = let e' = laid 0 e l in add_node shape.Call n.place p (newest l) (newest e') e'
-laid p (instances c n) l = add_node shape.Instances n.place p (newest l) 0 l
-laid p (end f d w) l = add_node (end_shape f) 0 p (newest l) 0 l
+    add_node (pairing_shape x n.place) n.place (Some (newest a')) (Some (newest b')) b'
+laid p (member d n) l = add_node (shape.Member n.place) p (Some (newest l)) None l
+laid p (call d n o e c) l = let e' = laid 0 e l in add_node (shape.Call n.place) p (Some (newest l)) (Some (newest e')) e'
+laid p (instances c n) l = add_node (shape.Instances n.place) p (Some (newest l)) None l
+laid p (end f d w) l = add_node (end_shape f) p (Some (newest l)) None l
 laid p (chain a ss) l = laid (first_atom a) ss (laid 0 a l)
 laid p (bare n) l = l
 laid p (inside i d n) l = laid 0 i l
@@ -194,7 +194,7 @@ laid p (alone i) l = laid 0 i l
 laid p (equal i q j) l =
     let i' = laid 0 i l in
     let j' = laid 0 j i' in
-    add_node shape.Equal 0 (first_item i) (newest i') (newest j') j'
+    add_node shape.Equal (first_item i) (Some (newest i')) (Some (newest j')) j'
 laid p (assign x q e) l =
     let x' = laid 0 x l in
     let e' = laid 0 e x' in
@@ -206,12 +206,12 @@ laid p (assigns x q e) l =
 laid p (calls i d n o e c) l =
     let i' = laid 0 i l in
     let e' = laid 0 e i' in
-    add_node shape.Call n.place (first_item i) (newest i') (newest e') e'
+    add_node (shape.Call n.place) (first_item i) (Some (newest i')) (Some (newest e')) e'
 laid p (creates c) l = laid 0 c l
-laid p (act a s) l = let a' = laid 0 a l in add_node shape.Action 0 (first_action a) (newest a') 0 a'
+laid p (act a s) l = let a' = laid 0 a l in add_node shape.Action (first_action a) (Some (newest a')) None a'
 laid p (branch i o e c b ss f g h us k s) l =
     let e' = laid 0 e l in
-    let b' = add_node shape.Branch 0 i.place (newest e') 0 e' in
+    let b' = add_node shape.Branch i.place (Some (newest e')) None e' in
     let ss' = laid 0 ss b' in
     let us' = laid 0 us ss' in
     add_block (newest b') (next ss') (next us') us'
@@ -222,7 +222,7 @@ laid p (declares t n s) l = add_declared (type_of t) n.place l
 laid p (method_of t n o u v c b vs ss r e s f) l =
     let m' = add_method (type_of t) n.place (type_of u) v.place l in
     let e' = laid 0 e (laid 0 ss (laid 0 vs m')) in
-    add_node shape.Return 0 r.place (newest e') 0 e'
+    add_node shape.Return r.place (Some (newest e')) None e'
 laid p (class w n x q b vs ms f) l = laid 0 ms (laid 0 vs (add_class n.place q.place l))
 laid p (relationship w n x q o y m z c b vs ms f) l =
     laid 0 ms (laid 0 vs (add_relationship n.place q.place y.place z.place l))

@@ -1,6 +1,8 @@
 -- How large a program may be.
 use Rattle.std.specs.Prelude.{ℕ, ◌+◌, max, Bool, cond, length, Some, None, Option, nat_lt}
 use Rattle.grammar.specs.Trees.{Sort, many, variable, Tree, Program, none, more, name, literal, paren, made, new, pair, member, call, instances, end, chain, bare, inside, alone, equal, assign, assigns, calls, creates, act, branch, boolean, set_of, row, declares, method_of, class, relationship}
+use Rattle.outline.specs.declared.limit.Limit.{Limit}
+use Rattle.outline.specs.declared.limit.Limit.TheVariants as limit
 use Rattle.outline.specs.Layout.{contents_of}
 
 -- The height of an expression: a leaf has 1, any other node is one above its highest part, and so is a pair of brackets
@@ -77,16 +79,25 @@ crowd h (method_of t n o u v c b vs ss r e s f) = max h (2 + how_many vs)
 crowd h (class w n x q b vs ms f) = crowd h ms
 crowd h (relationship w n x q o y m z c b vs ms f) = crowd h ms
 
--- the first of these limits that is passed, by its number
-abbrev pub passed : Bool → ℕ → Option ℕ → Option ℕ
+abbrev pub limit_number : Limit → ℕ
+limit_number limit.Classes = 1
+limit_number limit.Relationships = 2
+limit_number limit.Fields = 3
+limit_number limit.Methods = 4
+limit_number limit.Variables = 5
+limit_number limit.Nodes = 6
+limit_number limit.Height = 7
+
+-- the first of these limits that is passed
+abbrev pub passed : Bool → Limit → Option Limit → Option Limit
 passed b n other = cond b (Some n) other
 
-unfoldable pub limit_passed : Program → Option ℕ
+unfoldable pub limit_passed : Program → Option Limit
 limit_passed t =
-    passed (nat_lt 31 (length (contents_of t).classes)) 1
-    (passed (nat_lt 31 (length (contents_of t).relationships)) 2
-    (passed (nat_lt 128 (length (contents_of t).fields)) 3
-    (passed (nat_lt 64 (length (contents_of t).methods)) 4
-    (passed (nat_lt 12 (crowd 0 t)) 5
-    (passed (nat_lt 2048 (length (contents_of t).nodes)) 6
-    (passed (nat_lt 16 (height 0 t)) 7 None))))))
+    passed (nat_lt 31 (length (contents_of t).classes)) limit.Classes
+    (passed (nat_lt 31 (length (contents_of t).relationships)) limit.Relationships
+    (passed (nat_lt 128 (length (contents_of t).fields)) limit.Fields
+    (passed (nat_lt 64 (length (contents_of t).methods)) limit.Methods
+    (passed (nat_lt 12 (crowd 0 t)) limit.Variables
+    (passed (nat_lt 2048 (length (contents_of t).nodes)) limit.Nodes
+    (passed (nat_lt 16 (height 0 t)) limit.Height None))))))

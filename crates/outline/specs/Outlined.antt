@@ -9,19 +9,20 @@ use Rattle.grammar.specs.Judged.{NoProgram}
 use Rattle.grammar.specs.Judged as judged
 use Rattle.grammar.specs.Trees.{Program}
 use Rattle.outline.specs.declared.contents.Outline.{Outline}
+use Rattle.outline.specs.declared.limit.Limit.{Limit}
 use Rattle.outline.specs.declared.outlining.Unlisted.{Unlisted}
-use Rattle.outline.specs.declared.outlining.Unlisted.TheVariants.{Text, Limit}
+use Rattle.outline.specs.declared.outlining.Unlisted.TheVariants as unlisted
 use Rattle.outline.specs.Contents.{contents}
 use Rattle.outline.specs.Layout.{contents_of}
-use Rattle.outline.specs.Limits.{limit_passed}
+use Rattle.outline.specs.Limits.{limit_number, limit_passed}
 
 abbrev pub number_of : Unlisted → ℕ
-number_of (Text t) = judged.number_of t
-number_of (Limit n) = 14
+number_of (unlisted.Text t) = judged.number_of t
+number_of (unlisted.Limit l) = 14
 
 abbrev pub place_of : Unlisted → ℕ
-place_of (Text t) = judged.place_of t
-place_of (Limit n) = n
+place_of (unlisted.Text t) = judged.place_of t
+place_of (unlisted.Limit l) = limit_number l
 
 -- a text can be read as words, and these are the words of this tree and of no other
 pub record IsProgram (text : List ℕ) (t : Program) : Type 0 where
@@ -29,11 +30,11 @@ pub record IsProgram (text : List ℕ) (t : Program) : Type 0 where
   pub readable : surveyed text ≡ Ok extent
   pub parsed : Parsed (words text) t
 
--- a program that passes a limit, the first of them being n
-pub record TooLarge (text : List ℕ) (n : ℕ) : Type 0 where
+-- a program that passes a limit, the first of them being l
+pub record TooLarge (text : List ℕ) (l : Limit) : Type 0 where
   pub tree : Program
   pub program : IsProgram text tree
-  pub limit : limit_passed tree ≡ Some n
+  pub limit : limit_passed tree ≡ Some l
 
 -- a program within all limits, with its tables
 pub record Listed (text : List ℕ) (o : Outline) : Type 0 where
@@ -44,6 +45,6 @@ pub record Listed (text : List ℕ) (o : Outline) : Type 0 where
 
 abbrev pub Outlined : List ℕ → Result Outline Unlisted → Type 0
 Outlined text (Ok o) = Listed text o
-Outlined text (Err (Text (Unreadable u))) = surveyed text ≡ Err u
-Outlined text (Err (Text (Unexpected e))) = NoProgram text e.place
-Outlined text (Err (Limit n)) = TooLarge text n
+Outlined text (Err (unlisted.Text (Unreadable u))) = surveyed text ≡ Err u
+Outlined text (Err (unlisted.Text (Unexpected e))) = NoProgram text e.place
+Outlined text (Err (unlisted.Limit l)) = TooLarge text l

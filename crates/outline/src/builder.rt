@@ -1,11 +1,12 @@
 use crate::contents::Outline;
-use crate::entry::Open;
+use crate::limit::NODES;
+use pending::Open;
 use tables::table::Table;
 use values::types::CellRow;
 
-// Counts of what was read, each no further than one above its limit; the row that was declared last; whether one of its
+// Counts of what was read, each as far as its type goes, which is past its limit; the row that was declared last; whether one of its
 // methods is being read; and the greatest height of a statement that stands in no open branch.
-#[derive(Clone, Copy)]
+#[derive(Clone, Copy, Default)]
 pub(crate) struct Tally {
     pub(crate) classes: u8,
     pub(crate) relationships: u8,
@@ -23,7 +24,7 @@ pub(crate) struct Tally {
 #[derive(Drop)]
 pub(crate) struct Builder {
     pub(crate) outline: Outline,
-    pub(crate) opened: Table<Open, 2048>,
+    pub(crate) opened: Table<Open, NODES>,
     pub(crate) tally: Tally,
 }
 
@@ -31,4 +32,5 @@ pub(crate) mod declaring;
 pub(crate) mod limits;
 pub(crate) mod nodes;
 pub(crate) mod opening;
+pub(crate) mod pending;
 pub(crate) mod taking;

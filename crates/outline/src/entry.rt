@@ -4,8 +4,9 @@ use values::types::CellRow;
 // What a text declares, with names as their places in the text. Row n of a line, from 1, is entry n - 1 of the line's
 // table; row 0 is the root, which no text declares.
 
-// A class or a relationship. Of a class, the ends are 0.
-#[derive(Clone, Copy)]
+// A class or a relationship. Of a class, the ends are 0, and nothing reads them: both lines have one type of table, and
+// ends in an Option would give each relationship a case that none has.
+#[derive(Clone, Copy, PartialEq, Eq, Debug, Default)]
 pub struct Row {
     pub name: usize,
     pub parent: usize,
@@ -14,7 +15,7 @@ pub struct Row {
 }
 
 // A field, and the row that declares it.
-#[derive(Clone, Copy)]
+#[derive(Clone, Copy, PartialEq, Eq, Debug, Default)]
 pub struct Field {
     pub owner: CellRow,
     pub typed: TypeWord,
@@ -22,7 +23,7 @@ pub struct Field {
 }
 
 // A method, and the row that declares it.
-#[derive(Clone, Copy)]
+#[derive(Clone, Copy, PartialEq, Eq, Debug, Default)]
 pub struct Method {
     pub owner: CellRow,
     pub result: TypeWord,
@@ -30,67 +31,53 @@ pub struct Method {
 }
 
 // A parameter or a local, and the number of its method. A method's parameter comes before its locals.
-#[derive(Clone, Copy)]
+#[derive(Clone, Copy, PartialEq, Eq, Debug, Default)]
 pub struct Variable {
     pub method: usize,
     pub typed: TypeWord,
     pub name: usize,
 }
 
-// What a node is.
-#[derive(Clone, Copy)]
+// What a node is, with the place of the name that it has besides its parts, where it has one.
+#[derive(Clone, Copy, PartialEq, Eq, Debug, Default)]
 pub enum Shape {
-    Variable,
+    Variable(usize),
     True,
     False,
+    #[default]
     Null,
     This,
-    New,
-    Add,
-    Rem,
-    Member,
-    Call,
-    Instances,
+    New(usize),
+    Add(usize),
+    Rem(usize),
+    Member(usize),
+    Call(usize),
+    Instances(usize),
     From,
     To,
     Equal,
-    SetVariable,
-    SetMember,
+    SetVariable(usize),
+    SetMember(usize),
     Action,
     Branch,
     Return,
 }
 
-// A node, after all its parts: the number of its method, the place of the name that it has besides its parts (0 for
-// none), the place of its first word, and the numbers of its parts, 0 where there is none. A node with one part has it
-// on the left, except that an assigned value stands on the right.
-#[derive(Clone, Copy)]
+// A node, after all its parts: the number of its method, the place of its first word, and the numbers of its parts. A
+// node with one part has it on the left, except that an assigned value stands on the right.
+#[derive(Clone, Copy, PartialEq, Eq, Debug, Default)]
 pub struct Node {
     pub shape: Shape,
     pub method: usize,
-    pub name: usize,
     pub place: usize,
-    pub left: usize,
-    pub right: usize,
+    pub left: Option<usize>,
+    pub right: Option<usize>,
 }
 
 // The blocks of a branch: its node, the number of the first node after the first block, and after the second.
-#[derive(Clone, Copy)]
+#[derive(Clone, Copy, PartialEq, Eq, Debug, Default)]
 pub struct Block {
     pub branch: usize,
     pub otherwise: usize,
     pub joined: usize,
-}
-
-// What is not complete yet: a value that no node has taken, an assignment whose value is to come (to a member or to a
-// variable, with its name and place), or a branch (with the number of the first node after its first block as `name`,
-// once that is known). `node` is the number of the value's node, of the branch, or of the object to whose member is
-// assigned; `height` its height, no more than one above the limit, and for a branch the greatest height of its parts.
-#[derive(Clone, Copy)]
-pub struct Open {
-    pub member: bool,
-    pub node: usize,
-    pub name: usize,
-    pub place: usize,
-    pub height: u8,
 }

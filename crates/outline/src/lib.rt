@@ -4,4 +4,5 @@
 mod builder;
 pub mod contents;
 pub mod entry;
+pub mod limit;
 pub mod outlining;

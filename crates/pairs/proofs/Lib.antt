@@ -1,5 +1,5 @@
 pub mod Rows
-pub mod Gathering
+pub mod Told
 pub mod Changed
 pub mod Found
 pub mod Sets

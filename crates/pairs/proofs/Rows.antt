@@ -3,7 +3,8 @@ use Rattle.std.proofs.Common.{◌≡◌, ℕ, ◌+◌, Bool, true, false, cond, 
 use Rattle.std.proofs.lemmas.Bool.{and_parts, and_from, leb-true, both_ways}
 use Rattle.std.proofs.lemmas.Bool.Decides.{nat_tests}
 use Rattle.pairs.specs.declared.row.Row.{Row}
-use Rattle.pairs.specs.Rows.{alike, in_force, apart, small, all_small, Small}
+use Rattle.pairs.specs.declared.row.Link.{Link}
+use Rattle.pairs.specs.Rows.{alike, link, in_force, apart, small, all_small, Small}
 
 -- whether a row is that of a relationship and two cells
 abbrev pub joins : Row → ℕ → ℕ → ℕ → Bool
@@ -12,6 +13,10 @@ joins row r f t = alike row.relationship row.from row.to r f t
 -- the instance in force for a row's relationship and cells
 abbrev pub place_of : List Row → Row → Option ℕ
 place_of rows row = in_force rows row.relationship row.from row.to
+
+-- the same by the row's link
+pub place_of_link : (rows : List Row) (row : Row) (l : Link) → l ≡ link row → place_of rows row ≡ in_force rows l.relationship l.from l.to
+place_of_link rows row l e = ap (λ x. in_force rows x.relationship x.from x.to) (sym e)
 
 -- ---- alike is an equality of three numbers
 

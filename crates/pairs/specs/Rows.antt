@@ -3,8 +3,7 @@ use Rattle.std.specs.Prelude.{◌≡◌, ℕ, ◌<◌, ◌≤◌, Bool, true, fa
 use Rattle.pairs.specs.declared.row.Row.{Row}
 use Rattle.pairs.specs.declared.row.PutRefusal.{PutRefusal}
 use Rattle.pairs.specs.declared.row.PutRefusal.TheVariants.{BadRelationship, BadCell, Present, Full}
-use Rattle.pairs.specs.declared.row.Asked.{Asked}
-use Rattle.pairs.specs.declared.row.Asked.TheVariants.{To, Instance}
+use Rattle.pairs.specs.declared.row.Link.{Link}
 
 -- the same relationship, the same from cell and the same to cell
 abbrev pub alike : ℕ → ℕ → ℕ → ℕ → ℕ → ℕ → Bool
@@ -14,10 +13,9 @@ alike relationship from to r f t = relationship == r && (from == f && to == t)
 abbrev pub leads : Row → ℕ → ℕ → Bool
 leads row r f = row.relationship == r && row.from == f
 
--- the cell of a row that is asked for
-abbrev pub told : Asked → Row → ℕ
-told To row = row.to
-told Instance row = row.instance
+-- the relationship and the two cells of a row
+abbrev pub link : Row → Link
+link row = record { relationship = row.relationship; from = row.from; to = row.to }
 
 -- the instance in force for a relationship, a from cell and a to cell
 unfoldable pub in_force : List Row → ℕ → ℕ → ℕ → Option ℕ

@@ -11,5 +11,5 @@ pub fn relate_and_read<P: PairTable>(table: &mut P, row: Row) -> Option<u8>
     ensures fixed { P.PairTable.limit table.new ≡ P.PairTable.limit table.old }
 {
     let _ = table.put(row);
-    table.find(row.relationship, row.from, row.to)
+    table.find(row.link())
 }

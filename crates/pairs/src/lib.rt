@@ -2,5 +2,6 @@
 #![tactic(auto)]
 
 pub mod client;
+pub mod gathering;
 pub mod row;
 pub mod table;

@@ -1,9 +1,17 @@
 // A row of a pair table, and why a row is refused.
 ghost use Rattle.std.specs.Prelude.{◌≡◌, ℕ, ◌<◌, ◌≤◌, Bool, true, false, Some, None};
-ghost use Rattle.pairs.specs.Rows.{alike, leads, told, Judged};
+ghost use Rattle.pairs.specs.Rows.{alike, leads, link, Judged};
+
+// Which relationship leads from which cell to which.
+#[derive(Clone, Copy, PartialEq, Eq, Debug)]
+pub struct Link {
+    pub relationship: u8,
+    pub from: u8,
+    pub to: u8,
+}
 
 // Cell `from` stands in the relationship to cell `to`, by the instance.
-#[derive(Clone, Copy, PartialEq, Eq, Debug)]
+#[derive(Clone, Copy, PartialEq, Eq, Debug, Default)]
 pub struct Row {
     pub relationship: u8,
     pub from: u8,
@@ -24,19 +32,23 @@ pub enum PutRefusal {
     Full,
 }
 
-// Which cell a question gathers from rows.
-#[derive(Clone, Copy)]
-pub enum Asked {
-    To,
-    Instance,
-}
-
 impl Row {
-    // Whether this is the row of that relationship and those cells.
-    pub fn joins(self, relationship: u8, from: u8, to: u8) -> bool
-        ensures { result ≡ alike self.relationship self.from self.to relationship from to }
+    // The relationship and the cells that the row joins by it.
+    pub fn link(self) -> Link
+        ensures { result ≡ link self }
     {
-        self.leaves(relationship, from) && self.to == to
+        Link {
+            relationship: self.relationship,
+            from: self.from,
+            to: self.to,
+        }
+    }
+
+    // Whether this is the row of that link. The to cell is compared first, since it tells most rows apart: a list is searched faster so.
+    pub fn joins(self, link: Link) -> bool
+        ensures { result ≡ alike self.relationship self.from self.to link.relationship link.from link.to }
+    {
+        self.to == link.to && self.leaves(link.relationship, link.from)
     }
 
     // Whether this is a row of that relationship from that cell.
@@ -44,16 +56,6 @@ impl Row {
         ensures { result ≡ leads self relationship from }
     {
         self.relationship == relationship && self.from == from
-    }
-
-    // The cell that is asked for.
-    pub fn told(self, asked: Asked) -> u8
-        ensures { result ≡ told asked self }
-    {
-        match asked {
-            Asked::To => self.to,
-            Asked::Instance => self.instance,
-        }
     }
 }
 

@@ -4,10 +4,11 @@ ghost use Rattle.pairs.specs.declared.row.Row.{Row};
 ghost use Rattle.pairs.specs.Rows.{in_force, apart, all_small};
 ghost use Rattle.pairs.specs.Changes.{Put, Dropped, ToCells, Instances};
 
-use crate::row::{PutRefusal, Row};
+use crate::row::{Link, PutRefusal, Row};
 use cells::CellSet;
 
 // Rows in force, no two alike in relationship, from and to, and a fixed limit to their number.
+// A question of sets names a relationship and a from cell one by one: a struct of these two would be made at each call only to be taken apart.
 pub trait PairTable {
     ghost rows: { Self → List Row };
 
@@ -23,14 +24,14 @@ pub trait PairTable {
         ensures puts { Put (limit self.old) (rows self.old) row result (rows self.new) }
         ensures fixed { limit self.new ≡ limit self.old };
 
-    // Takes the row of a relationship and two cells out and answers its instance, or none where there is no such row.
-    fn drop_row(&mut self, relationship: u8, from: u8, to: u8) -> Option<u8>
-        ensures drops { Dropped (rows self.old) relationship from to result (rows self.new) }
+    // Takes the row of a link out and answers its instance, or none where there is no such row.
+    fn drop_row(&mut self, link: Link) -> Option<u8>
+        ensures drops { Dropped (rows self.old) link.relationship link.from link.to result (rows self.new) }
         ensures fixed { limit self.new ≡ limit self.old };
 
-    // The instance in force for a relationship and two cells.
-    fn find(&self, relationship: u8, from: u8, to: u8) -> Option<u8>
-        ensures { result ≡ in_force (rows self.now) relationship from to };
+    // The instance in force for a link.
+    fn find(&self, link: Link) -> Option<u8>
+        ensures { result ≡ in_force (rows self.now) link.relationship link.from link.to };
 
     // The cells to which the relationship leads from a cell.
     fn to_cells(&self, relationship: u8, from: u8) -> CellSet

@@ -1,16 +1,20 @@
 -- Rows in places: what is held, what a change of one place leaves, and that rows stay reached.
 use Rattle.std.proofs.Common.{◌≡◌, ℕ, zero, suc, ◌+◌, ◌-◌, ◌*◌, ◌%◌, ◌<◌, ◌≤◌, Bool, true, false, cond, ◌⊎◌, List, [], ◌∷◌, ◌++◌, length, take, drop, set, replicate, Some, None, sym, refl, ap, ◌∙◌, subst, inl, inr, arith, length-append}
+use Rattle.std.specs.Prelude.{not, map, Option, IsSome}
+use Rattle.std.specs.List.{find, range_with_len, filter_map, cons_option}
+use Rattle.std.specs.Option.{option_map}
+use Rattle.std.proofs.Common.{below_more}
 use lib.Seq.{split_at, set_split}
 use Rattle.std.proofs.lemmas.List.{append-nil, get_or-set_same, get_or-set_other, take_more, take_all}
-use Rattle.std.proofs.lemmas.Bool.{both_ways, cases_lt, cases_eq, and_parts}
+use Rattle.std.proofs.lemmas.Bool.{not-false, not-true, both_ways, cases_lt, cases_eq, and_parts}
 use Rattle.std.proofs.lemmas.Nat.{mod_below}
 use Rattle.pairs.specs.declared.row.Row.{Row}
 use Rattle.probe_table.specs.declared.place.Place.{Place}
 use Rattle.probe_table.specs.declared.place.Place.TheVariants.{Free, Dropped, Held}
 use Rattle.pairs.specs.Rows.{in_force, apart, small, all_small, Small}
-use Rattle.probe_table.specs.Probing.{held, used, is_free, is_held, holds, place_at, start, along, Reached, Open, Same}
+use Rattle.probe_table.specs.Probing.{held, used, is_free, is_held, holds, place_at, start, along, Reached, First, FirstAt, Located, Open, Same, ends, row_in}
 use Rattle.pairs.specs.Changes.{Added}
-use Rattle.pairs.proofs.Rows.{joins, place_of, alike_parts, in_force_nil, in_force_cons, in_force_here, in_force_more, all_small_more, apart_less, small_row, none_left}
+use Rattle.pairs.proofs.Rows.{joins, place_of, alike_parts, alike_self, in_force_nil, in_force_cons, in_force_here, in_force_more, all_small_more, apart_less, small_row, none_left}
 use Rattle.pairs.proofs.Changed.{Grown, Gone, grown, gone}
 
 -- ---- what is held
@@ -25,6 +29,29 @@ held_append [] ys = refl
 held_append (Free ∷ xs) ys = held_append xs ys
 held_append (Dropped ∷ xs) ys = held_append xs ys
 held_append (Held row ∷ xs) ys = ap (λ rows. row ∷ rows) (held_append xs ys)
+
+pub row_in_held : (x : Place) (row : Row) → row_in x ≡ Some row → x ≡ Held row
+row_in_held Free row h = let z : ◌≡◌ {A = ℕ} 0 1 = cc in absurd (omega arith)
+row_in_held Dropped row h = let z : ◌≡◌ {A = ℕ} 0 1 = cc in absurd (omega arith)
+row_in_held (Held other) row h = let same : other ≡ row = cc in ap Held same
+
+pub no_row_in : (x : Place) (o : Option Row) → o ≡ row_in x → ((row : Row) → o ≡ Some row → ⊥) → is_held x ≡ false
+no_row_in Free o e h = refl
+no_row_in Dropped o e h = refl
+no_row_in (Held row) o e h = absurd (h row e)
+
+-- what the row of a place tells
+abbrev pub told_in : {A : Type 0} → (Row → Option A) → Place → Option A
+told_in told Free = None
+told_in told Dropped = None
+told_in told (Held row) = told row
+
+pub told_held : {A : Type 0} (told : Row → Option A) (places : List Place) → filter_map (told_in told) places ≡ filter_map told (held places)
+unfolding held
+told_held told [] = refl
+told_held told (Free ∷ places) = told_held told places
+told_held told (Dropped ∷ places) = told_held told places
+told_held told (Held row ∷ places) = ap (cons_option (told row)) (told_held told places)
 
 held_vacant : (x : Place) (ys : List Place) → is_held x ≡ false → held (x ∷ ys) ≡ held ys
 unfolding held
@@ -231,11 +258,6 @@ held_not_free Free h = absurd (both_ways false refl h)
 held_not_free Dropped h = refl
 held_not_free (Held row) h = refl
 
-pub not_held : (x : Place) → ((row : Row) → x ≡ Held row → ⊥) → is_held x ≡ false
-not_held Free h = refl
-not_held Dropped h = refl
-not_held (Held row) h = absurd (h row refl)
-
 -- a way on which every place holds a row
 pub way_full : (places : List Place) → length places ≡ 512 → (r f t : ℕ) → ((i : ℕ) → i < 512 → is_held (place_at places (along r f t i)) ≡ true) → length (held places) ≡ 512
 way_full places whole r f t h = held_full places (λ p l. go p (along_every r f t p (omega arith))) ∙ whole
@@ -248,6 +270,72 @@ pub row_is : (row : Row) (r f t : ℕ) → joins row r f t ≡ true → row ≡ 
 row_is row r f t h =
     let p = alike_parts row.relationship row.from row.to r f t h in
     λ i. record { relationship = p.0 i; from = p.1 i; to = p.2 i; instance = row.instance }
+
+-- ---- a search by a test
+
+-- the place at a step of the way, and what it is
+abbrev pub step_of : List Place → ℕ → ℕ → ℕ → ℕ → ℕ × Place
+step_of places r f t k = (along r f t k, place_at places (along r f t k))
+
+first_from : (test : Place → Bool) (places : List Place) (r f t a n : ℕ) → a + n ≡ 512 → ((i : ℕ) → i < a → test (place_at places (along r f t i)) ≡ false)
+    → First test places r f t (find (λ x. test x.1) (map (step_of places r f t) (range_with_len a n)))
+first_from test places r f t a zero e before = λ i l. before i (omega arith)
+first_from test places r f t a (suc n) e before = go (test (place_at places (along r f t a))) refl (first_from test places r f t (a + 1) n (omega arith))
+  where
+    go : (b : Bool) → test (place_at places (along r f t a)) ≡ b
+        → (((i : ℕ) → i < a + 1 → test (place_at places (along r f t i)) ≡ false)
+        → First test places r f t (find (λ x. test x.1) (map (step_of places r f t) (range_with_len (a + 1) n))))
+        → First test places r f t (cond b (Some (along r f t a, place_at places (along r f t a))) (find (λ x. test x.1) (map (step_of places r f t) (range_with_len (a + 1) n))))
+    go true h more = (record { steps = a; few = omega arith; here = refl; passes = h; before = before }, refl)
+    go false h more = more (below_more (λ i. test (place_at places (along r f t i)) ≡ false) a before h)
+
+pub first_found : (test : Place → Bool) (places : List Place) (r f t : ℕ) → First test places r f t (find (λ x. test x.1) (map (step_of places r f t) (range_with_len 0 512)))
+first_found test places r f t = first_from test places r f t 0 512 refl (λ i l. absurd (omega arith))
+
+pub first_below : {test : Place → Bool} {places : List Place} {r f t p : ℕ} → FirstAt test places r f t p → p < 512
+first_below {r = r} {f = f} {t = t} h = omega (arith, along_below r f t h.steps, h.here)
+
+-- what the test `ends` says of a place
+pub ends_past : (r f t : ℕ) (x : Place) → ends r f t x ≡ false → holds x r f t ≡ false
+ends_past r f t Free h = refl
+ends_past r f t Dropped h = refl
+ends_past r f t (Held row) h = h
+
+pub ends_free : (r f t : ℕ) (x : Place) → ends r f t x ≡ true → row_in x ≡ None → is_free x ≡ true
+ends_free r f t Free h e = refl
+ends_free r f t Dropped h e = absurd (both_ways false refl h)
+ends_free r f t (Held row) h e = let z : ◌≡◌ {A = ℕ} 0 1 = cc in absurd (omega arith)
+
+pub ends_held : (r f t : ℕ) (x : Place) (row : Row) → ends r f t x ≡ true → row_in x ≡ Some row
+    → x ≡ Held (record { relationship = r; from = f; to = t; instance = row.instance })
+ends_held r f t Free row h e = let z : ◌≡◌ {A = ℕ} 0 1 = cc in absurd (omega arith)
+ends_held r f t Dropped row h e = absurd (both_ways false refl h)
+ends_held r f t (Held other) row h e = let same : other ≡ row = cc in ap Held (row_is other r f t h ∙ ap (λ x. record { relationship = r; from = f; to = t; instance = x.instance }) same)
+
+-- the instance that a search told
+pub located_told : (places : List Place) → length places ≡ 512 → apart (held places) ≡ true → (r f t : ℕ) (o : Option (ℕ × ℕ)) → Located places r f t o
+    → option_map (λ x. x.1) o ≡ in_force (held places) r f t
+located_told places whole h r f t None l = sym l
+located_told places whole h r f t (Some x) l = sym (in_force_place places x.0 (omega arith) _ l.1 h r f t (alike_self r f t))
+
+-- a search for a place that holds no row finds one, where there are fewer rows than places
+module _ (places : List Place) (whole : length places ≡ 512) (few : length (held places) < 512) (r f t : ℕ) where
+  pub room_found : (o : Option (ℕ × Place)) → First (λ x. not (is_held x)) places r f t o → IsSome o
+  room_found None h =
+      let all = way_full places whole r f t (λ i l. not-false (is_held (place_at places (along r f t i))) (h i l)) in
+      absurd (omega arith)
+  room_found (Some x) h = refl
+
+pub open_found : (places : List Place) (r f t p : ℕ) → FirstAt (λ x. not (is_held x)) places r f t p → Open places r f t p
+open_found places r f t p h =
+    record {
+      steps = h.steps;
+      few = h.few;
+      here = h.here;
+      below = first_below h;
+      vacant = not-true (is_held (place_at places p)) h.passes;
+      before = λ i l. held_not_free _ (not-false (is_held (place_at places (along r f t i))) (h.before i l));
+    }
 
 -- ---- rows stay reached
 

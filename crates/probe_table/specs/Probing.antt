@@ -33,6 +33,18 @@ holds Free r f t = false
 holds Dropped r f t = false
 holds (Held row) r f t = alike row.relationship row.from row.to r f t
 
+-- the row that a place holds
+abbrev pub row_in : Place → Option Row
+row_in Free = None
+row_in Dropped = None
+row_in (Held row) = Some row
+
+-- whether a search for the row of a relationship and two cells ends at a place: it holds that row, or is free
+abbrev pub ends : ℕ → ℕ → ℕ → Place → Bool
+ends r f t Free = true
+ends r f t Dropped = false
+ends r f t (Held row) = alike row.relationship row.from row.to r f t
+
 abbrev pub place_at : List Place → ℕ → Place
 place_at places p = slice_index_or places p Free
 
@@ -60,6 +72,19 @@ abbrev pub Reached : List Place → Type 0
 Reached places =
     (w : Way) → holds (place_at places (along w.relationship w.from w.to w.step)) w.relationship w.from w.to ≡ true
     → is_free (place_at places (along w.relationship w.from w.to w.earlier)) ≡ false
+
+-- the first place on the way of a relationship and two cells that passes a test
+pub record FirstAt (test : Place → Bool) (places : List Place) (r f t p : ℕ) : Type 0 where
+  pub steps : ℕ
+  pub few : steps < 512
+  pub here : p ≡ along r f t steps
+  pub passes : test (place_at places p) ≡ true
+  pub before : (i : ℕ) → i < steps → test (place_at places (along r f t i)) ≡ false
+
+-- that place, and what it is
+abbrev pub First : (Place → Bool) → List Place → ℕ → ℕ → ℕ → Option (ℕ × Place) → Type 0
+First test places r f t None = (i : ℕ) → i < 512 → test (place_at places (along r f t i)) ≡ false
+First test places r f t (Some x) = FirstAt test places r f t x.0 × (x.1 ≡ place_at places x.0)
 
 -- the place, and the instance, of the row of a relationship and two cells
 abbrev pub Located : List Place → ℕ → ℕ → ℕ → Option (ℕ × ℕ) → Type 0

@@ -1,18 +1,20 @@
 // A pair table that reaches a row by probing from a place that its three numbers give.
 #![tactic(auto)]
 
-ghost use Rattle.std.specs.Prelude.{◌≡◌, ℕ, ◌+◌, ◌<◌, ◌≤◌, true, List, [], length, Some, None};
-ghost use Rattle.pairs.specs.Gathering.{Gathered};
+ghost use Rattle.std.specs.Prelude.{◌≡◌, ℕ, ◌+◌, ◌<◌, ◌≤◌, Bool, true, List, [], length, Some, None};
+ghost use Rattle.pairs.specs.Gathering.{Tells};
 ghost use Rattle.pairs.specs.Rows.{apart, all_small, in_force, Small};
 ghost use Rattle.pairs.specs.Changes.{Added};
-ghost use Rattle.probe_table.specs.Probing.{held, used, start, along, Reached, Located, Open, Same};
+ghost use Rattle.probe_table.specs.declared.place.Place.{Place};
+ghost use Rattle.probe_table.specs.Probing.{held, used, start, along, Reached, Located, First, Open, Same};
 ghost use Rattle.std.proofs.Common.{rules};
 
 mod place;
 
 use crate::place::Place;
 use cells::CellSet;
-use pairs::row::{Asked, PutRefusal, Row, judged};
+use pairs::gathering::gathered;
+use pairs::row::{Link, PutRefusal, Row, judged};
 use pairs::table::PairTable;
 
 // How many rows there may be.
@@ -25,10 +27,11 @@ const PLACES: usize = 512;
 const WORN: usize = 320;
 
 // Up to 256 rows in 512 places. A dropped row's place is marked, so that rows further on are still reached.
+// A place is reached by its number alone, so the places are an array: `count` and `spent` are no lengths of it.
 // At most 320 places are not free at any time, so a search soon meets a free one, however many rows were put in and dropped.
 #[derive(Drop)]
 pub struct ProbeTable {
-    places: [Place; 512],
+    places: [Place; PLACES],
     count: usize,
     spent: usize,
     ghost whole: { length places ≡ 512 },
@@ -41,13 +44,14 @@ pub struct ProbeTable {
     ghost reached: { Reached places },
 }
 
-// The place that is k further on from where the search for a relationship and two cells starts.
-fn probe(relationship: u8, from: u8, to: u8, k: usize) -> usize
+// The place that is k further on from where the search for a link starts.
+fn probe(link: Link, k: usize) -> usize
     requires { k < 512 }
-    ensures place { result ≡ along relationship from to k }
+    ensures place { result ≡ along link.relationship link.from link.to k }
     ensures below { result < 512 }
 {
-    let start = (relationship as usize * 29 + from as usize * 67 + to as usize * 131) % PLACES;
+    let start = (link.relationship as usize * 29 + link.from as usize * 67 + link.to as usize * 131)
+        % PLACES;
     (start + k) % PLACES
 }
 
@@ -58,46 +62,41 @@ impl ProbeTable {
         ensures unspent { result.spent ≡ 0 }
     {
         ProbeTable {
-            places: [Place::Free; 512],
+            places: [Place::Free; PLACES],
             count: 0,
             spent: 0,
         }
     }
 
-    // The place and the instance of the row of a relationship and two cells.
-    fn position(&self, relationship: u8, from: u8, to: u8) -> Option<(usize, u8)>
-        ensures { Located self.now.places relationship from to result }
+    // The first place on the way of a link at which the search stops, with what it is.
+    fn first<F: Fn(&Place) -> bool>(&self, link: Link, stops: F) -> Option<(usize, Place)>
+        requires { F.IsAlwaysCallable stops }
+        ensures { (test : Place → Bool) → Tells F.Fn stops test → First test self.now.places link.relationship link.from link.to result }
     {
-        for k in 0..PLACES {
-            let place = probe(relationship, from, to, k);
-            let here = self.places[place];
-            match here {
-                Place::Free => return None,
-                Place::Dropped => {}
-                Place::Held(row) => {
-                    if row.joins(relationship, from, to) {
-                        return Some((place, row.instance));
-                    }
-                }
-            }
-        }
-        None
+        (0..PLACES)
+            .map(|k| {
+                let place = probe(link, k);
+                (place, self.places[place])
+            })
+            .find(|(_, here)| stops(here))
     }
 
-    // The first place, on the way of a relationship and two cells, that holds no row.
-    fn room(&self, relationship: u8, from: u8, to: u8) -> usize
-        requires { self.now.count < 256 }
-        ensures { Open self.now.places relationship from to result }
+    // The place and the instance of the row of a link.
+    fn position(&self, link: Link) -> Option<(usize, u8)>
+        ensures { Located self.now.places link.relationship link.from link.to result }
     {
-        for k in 0..PLACES {
-            let place = probe(relationship, from, to, k);
-            let here = self.places[place];
-            match here {
-                Place::Held(_) => {}
-                Place::Free | Place::Dropped => return place,
-            }
-        }
-        unreachable()
+        let (place, here) = self.first(link, |here| here.ends(link))?;
+        let row = here.row()?;
+        Some((place, row.instance))
+    }
+
+    // The first place on the way of a link that holds no row.
+    fn room(&self, link: Link) -> usize
+        requires { self.now.count < 256 }
+        ensures { Open self.now.places link.relationship link.from link.to result }
+    {
+        let (place, _) = self.first(link, |here| !here.is_held()).unwrap();
+        place
     }
 
     // Puts in a row that is good, is not there and has room.
@@ -109,7 +108,7 @@ impl ProbeTable {
         ensures added { Added (held self.old.places) row (held self.new.places) }
         ensures spends { self.new.spent ≡ self.old.spent + 1 }
     {
-        let place = self.room(row.relationship, row.from, row.to);
+        let place = self.room(row.link());
         self.places[place] = Place::Held(row);
         self.count += 1;
         self.spent += 1;
@@ -121,9 +120,8 @@ impl ProbeTable {
         ensures unspent { result.spent ≡ result.count }
     {
         let mut fresh = ProbeTable::new();
-        for p in 0..PLACES {
-            let here = self.places[p];
-            if let Place::Held(row) = here {
+        for place in &self.places {
+            if let Some(row) = place.row() {
                 fresh.insert(row);
             }
         }
@@ -139,22 +137,6 @@ impl ProbeTable {
         if self.spent >= WORN {
             *self = self.relaid();
         }
-    }
-
-    // The cells asked for of the rows of a relationship from a cell.
-    fn gathered(&self, relationship: u8, from: u8, asked: Asked) -> CellSet
-        ensures { Gathered asked relationship from (held self.now.places) result }
-    {
-        let mut found = CellSet::empty();
-        for p in 0..PLACES {
-            let here = self.places[p];
-            if let Place::Held(row) = here {
-                if row.leaves(relationship, from) {
-                    found = found.with(row.told(asked));
-                }
-            }
-        }
-        found
     }
 }
 
@@ -176,35 +158,35 @@ impl PairTable for ProbeTable {
     }
 
     fn put(&mut self, row: Row) -> Result<(), PutRefusal> {
-        let present = self.find(row.relationship, row.from, row.to);
-        judged(row, present, self.count >= LIMIT)?;
+        judged(row, self.find(row.link()), self.count >= LIMIT)?;
         self.freshen();
         self.insert(row);
         Ok(())
     }
 
-    fn drop_row(&mut self, relationship: u8, from: u8, to: u8) -> Option<u8> {
-        let Some((place, instance)) = self.position(relationship, from, to) else {
-            return None;
-        };
+    fn drop_row(&mut self, link: Link) -> Option<u8> {
+        let (place, instance) = self.position(link)?;
         self.places[place] = Place::Dropped;
         self.count -= 1;
         Some(instance)
     }
 
-    fn find(&self, relationship: u8, from: u8, to: u8) -> Option<u8> {
-        match self.position(relationship, from, to) {
-            Some((_, instance)) => Some(instance),
-            None => None,
-        }
+    fn find(&self, link: Link) -> Option<u8> {
+        self.position(link).map(|(_, instance)| instance)
     }
 
     fn to_cells(&self, relationship: u8, from: u8) -> CellSet {
-        self.gathered(relationship, from, Asked::To)
+        gathered(&self.places, |place| {
+            let row = place.row()?;
+            row.leaves(relationship, from).then_some(row.to)
+        })
     }
 
     fn instances(&self, relationship: u8, from: u8) -> CellSet {
-        self.gathered(relationship, from, Asked::Instance)
+        gathered(&self.places, |place| {
+            let row = place.row()?;
+            row.leaves(relationship, from).then_some(row.instance)
+        })
     }
 
     fn count(&self) -> u16 {

@@ -1,8 +1,10 @@
 -- The verdict on a program, from what each part of a check found.
-use Rattle.std.proofs.Common.{◌≡◌, ℕ, ◌<◌, ◌≤◌, min, Bool, true, false, cond, ltb, List, length, Some, None, Option, sym, refl, ap, ◌∙◌, arith, le-ltb, lt-ltb}
+use Rattle.std.proofs.Common.{◌≡◌, ℕ, ◌<◌, ◌≤◌, min, Bool, true, false, cond, ltb, List, length, IsErrAnd, Some, None, Err, Option, Result, sym, refl, ap, ◌∙◌, arith, le-ltb, lt-ltb}
+use Rattle.std.proofs.lemmas.Result.{err_from_is_err_and}
 use Rattle.grammar.specs.Trees.{Program}
 use Rattle.outline.specs.declared.contents.Outline.{Outline}
-use Rattle.outline.specs.declared.outlining.Unlisted.TheVariants.{Limit}
+use Rattle.outline.specs.declared.limit.Limit.{Limit}
+use Rattle.outline.specs.declared.outlining.Unlisted.TheVariants as unlisted
 use Rattle.outline.specs.Contents.{contents}
 use Rattle.outline.specs.Layout.{contents_of}
 use Rattle.outline.specs.Limits.{limit_passed}
@@ -17,12 +19,16 @@ use Rattle.program.specs.declared.refusal.Refusal.TheVariants as refusal
 use Rattle.program.specs.Model.{model, model_of}
 use Rattle.program.specs.Verdict.{refused, verdict, Accepted, Rejected}
 
-abbrev whole : Option ℕ → Bool → Option Misdeclared → Option ℕ → Option Refusal
+-- what `?` answers with
+pub failed : {A : Type 0} {e : Refusal} (r : Result A Refusal) → IsErrAnd r (λ y. y ≡ e) → r ≡ Err e
+failed r h = let z = err_from_is_err_and r h in z.1 ∙ ap Err z.2
+
+abbrev whole : Option Limit → Bool → Option Misdeclared → Option ℕ → Option Refusal
 whole a b m u =
-    refused a (λ l. refusal.Unlisted (Limit l))
+    refused a (λ l. refusal.Unlisted (unlisted.Limit l))
     (cond b (Some refusal.ScratchTooSmall) (refused m refusal.Misdeclared (refused u refusal.Untyped None)))
 
-verdict_whole : (text : List ℕ) (n : ℕ) (t : Program) {a : Option ℕ} {b : Bool} {m : Option Misdeclared} {u : Option ℕ}
+verdict_whole : (text : List ℕ) (n : ℕ) (t : Program) {a : Option Limit} {b : Bool} {m : Option Misdeclared} {u : Option ℕ}
     → limit_passed t ≡ a → ltb n (length (contents_of t).nodes) ≡ b → misdeclared_of text (contents_of t) (declared_of text (contents_of t)) ≡ m
     → first_untyped text (contents_of t) (declared_of text (contents_of t)) (length (contents_of t).nodes) ≡ u → verdict text n t ≡ whole a b m u
 unfolding verdict
@@ -35,7 +41,7 @@ verdict_whole text n t {a} {b} {m} {u} p q r s =
     ∙ ap (λ x. whole a b m x) s
 
 -- a limit is passed
-pub too_large : {text : List ℕ} {l : ℕ} (n : ℕ) → TooLarge text l → Rejected text n (refusal.Unlisted (Limit l))
+pub too_large : {text : List ℕ} {l : Limit} (n : ℕ) → TooLarge text l → Rejected text n (refusal.Unlisted (unlisted.Limit l))
 too_large {text} n h = record { tree = h.tree; program = h.program; verdict_is = verdict_whole text n h.tree h.limit refl refl refl }
 
 -- What is found in a text's tables o, with what they declare, is found in its tree's.

@@ -9,7 +9,8 @@ use Rattle.tables.specs.Listed.{listed}
 use Rattle.outline.specs.declared.entry.Block.{Block}
 use Rattle.outline.specs.Contents.{Contents}
 use Rattle.declarations.specs.Resolved.{Declared, declared, declared_of}
-use Rattle.declarations.specs.Rows.{given, holds, row}
+use Rattle.tables.specs.Items.{given, holds}
+use Rattle.declarations.specs.Rows.{row}
 use Rattle.typing.specs.declared.step.Instruction.{Instruction}
 use Rattle.typing.specs.Passing.{instruction_at}
 use Rattle.program.specs.declared.code.Code.{Code}

@@ -1,12 +1,16 @@
+ghost use Rattle.std.specs.Prelude.{Some, ◌++◌, ◌∷◌};
+ghost use Rattle.std.specs.Fmt.{decimal};
+
 use declarations::declarations::Declarations;
 use outline::entry::Block;
+use std::fmt;
 use tables::table::Table;
 use typing::step::Instruction;
 use values::types::CellRow;
 
 // Where a call finds a method: the row that declares it, and the number of the first method of its name in the text,
 // which is the same for all methods of that name.
-#[derive(Clone, Copy)]
+#[derive(Clone, Copy, PartialEq, Eq, Debug, Default)]
 pub struct Dispatch {
     pub owner: CellRow,
     pub selector: usize,
@@ -27,11 +31,27 @@ pub struct Code {
 }
 
 // How many classes, relationships, fields, methods and nodes a program has.
-#[derive(Clone, Copy)]
+#[derive(Clone, Copy, PartialEq, Eq, Debug)]
 pub struct Counts {
     pub classes: u8,
     pub relationships: u8,
     pub fields: usize,
     pub methods: usize,
     pub nodes: usize,
+}
+
+// The five numbers, with spaces between them.
+impl fmt::Display for Counts {
+    ghost output = { λ c. Some (decimal c.classes ++ 32 ∷ decimal c.relationships ++ 32 ∷ decimal c.fields ++ 32 ∷ decimal c.methods ++ 32 ∷ decimal c.nodes) };
+
+    fn fmt<W: fmt::Write>(&self, f: &mut fmt::Formatter<W>) -> fmt::Result {
+        let Counts {
+            classes,
+            relationships,
+            fields,
+            methods,
+            nodes,
+        } = *self;
+        write!(f, "{classes} {relationships} {fields} {methods} {nodes}")
+    }
 }

@@ -1,5 +1,8 @@
 -- How bytes are spelled in plain ASCII.
-use Rattle.std.specs.Prelude.{◌≡◌, ℕ, ◌+◌, ◌-◌, ◌*◌, Bool, cond, ◌&&◌, List, [], ◌∷◌, ◌++◌, drop, Some, None, Option, ◌==◌, nat_le}
+use Rattle.std.specs.Prelude.{◌≡◌, ℕ, ◌+◌, ◌-◌, ◌*◌, Bool, cond, if◌then◌else◌, ◌&&◌, List, [], ◌∷◌, ◌++◌, length, drop, replicate, Some, None, Option, Ok, ◌==◌, nat_le, nat_lt}
+use Rattle.std.specs.Bool.{MatchBool}
+use Rattle.std.specs.List.{FoldsTo, position_or_len, before_first, after_first, slice_split}
+use Rattle.std.specs.Str.Parse.{ParsesUnsigned}
 use Rattle.spelled_texts.specs.declared.spelled.Spelled.{Spelled}
 
 abbrev pub within : ℕ → ℕ → ℕ → Bool
@@ -33,3 +36,32 @@ first_spelled (b ∷ s) = cond (b == 92) (escaped s) (Some (spells b 1))
 pub data Adds : List ℕ → List ℕ → List ℕ → Type 0 where
   none : {text : List ℕ} → Adds text [] text
   one : {text piece after : List ℕ} {s : Spelled} → first_spelled piece ≡ Some s → Adds (text ++ s.byte ∷ []) (drop s.length piece) after → Adds text piece after
+
+abbrev pub is_bar : ℕ → Bool
+is_bar b = b == 124
+
+abbrev pub is_star : ℕ → Bool
+is_star b = b == 42
+
+abbrev pub has_star : List ℕ → Bool
+has_star piece = nat_lt (position_or_len is_star piece) (length piece)
+
+-- bytes are n in decimal digits, with a plus before them or none, and n is below 2 ^ 32
+abbrev pub IsNumber : List ℕ → ℕ → Type 0
+IsNumber bytes n = ParsesUnsigned {E = ℕ} 32 10 bytes (Ok n)
+
+-- how often a piece is spelled: as the number before its first star says, and once where it has no star
+abbrev pub IsTimes : List ℕ → ℕ → Type 0
+IsTimes piece n = MatchBool (has_star piece) (IsNumber (before_first is_star piece) n) (n ≡ 1)
+
+-- what is spelled each time: what follows the first star, and the whole piece where it has no star
+abbrev pub spelling : List ℕ → List ℕ
+spelling piece = if has_star piece then after_first is_star piece else piece
+
+-- a text, a piece, and the text once the piece is added to it as often as it says
+abbrev pub AddsPiece : List ℕ → List ℕ → List ℕ → Type 0
+AddsPiece text piece after = (n : ℕ) × IsTimes piece n × FoldsTo Adds text (replicate n (spelling piece)) after
+
+-- a line, and the text that it spells: pieces with bars between them, one after another
+abbrev pub Spells : List ℕ → List ℕ → Type 0
+Spells line text = FoldsTo AddsPiece [] (slice_split is_bar line) text

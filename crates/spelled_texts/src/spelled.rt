@@ -1,10 +1,11 @@
 // Texts spelled in one line of plain ASCII. A line is pieces with `|` between them. `17*xy` is the piece xy seventeen
 // times, and any other piece is itself. In a piece `\HH`, with two lower-case hexadecimal digits, is one byte.
-ghost use Rattle.std.specs.Prelude.{◌≡◌, ◌<◌, ◌≤◌, length, IfSome, OnOk};
-ghost use Rattle.spelled_texts.specs.Spelling.{hex_value, first_spelled, Adds};
+ghost use Rattle.std.specs.Prelude.{◌≡◌, ◌<◌, ◌≤◌, length, IfSome, IfOk, OnOk};
+ghost use Rattle.spelled_texts.specs.Spelling.{hex_value, first_spelled, Adds, IsTimes, spelling, AddsPiece, Spells};
 
-use anyhow::anyhow;
+use anyhow::ensure;
 use std::alloc::Global;
+use std::num::ParseIntError;
 
 // A byte, and how many bytes of a piece spell it.
 #[derive(Clone, Copy)]
@@ -45,28 +46,43 @@ fn first_byte(piece: &[u8]) -> Option<Spelled>
 fn add_piece(text: &mut Vec<u8>, piece: &[u8]) -> anyhow::Result<()>
     ensures { OnOk result (Adds text.old.items piece.now text.new.items) }
 {
-    let mut at = 0;
-    while at < piece.len() {
-        let Some(spelled) = first_byte(&piece[at..]) else {
-            return Err(anyhow!("an escape that is not whole"));
-        };
+    let mut rest = piece;
+    while let Some(spelled) = first_byte(rest) {
         text.push(spelled.byte)?;
-        at += spelled.length;
+        rest = &rest[spelled.length..];
+    }
+    ensure!(rest.is_empty(), "an escape that is not whole");
+    Ok(())
+}
+
+// How often a piece is spelled, and what is spelled each time.
+fn times_and_spelling(piece: &str) -> Result<(u32, &str), ParseIntError>
+    ensures { IfOk result (λ r. IsTimes piece.now r.0 × (r.1.now ≡ spelling piece.now)) }
+{
+    match piece.split_once('*') {
+        Some((times, spelling)) => Ok((times.parse()?, spelling)),
+        None => Ok((1, piece)),
+    }
+}
+
+// Adds a piece to a text, as often as the piece says.
+fn add_repeated(text: &mut Vec<u8>, piece: &str) -> anyhow::Result<()>
+    ensures { OnOk result (AddsPiece text.old.items piece.now text.new.items) }
+{
+    let (times, spelling) = times_and_spelling(piece)?;
+    for _ in 0..times {
+        add_piece(text, spelling.as_bytes())?;
     }
     Ok(())
 }
 
 // The text that a line spells.
-pub fn decode(heap: Global, line: &str) -> anyhow::Result<Vec<u8>> {
+pub fn decode(heap: Global, line: &str) -> anyhow::Result<Vec<u8>>
+    ensures { IfOk result (λ text. Spells line.now text.items) }
+{
     let mut text = Vec::new(heap);
     for piece in line.split('|') {
-        let (times, bytes) = match piece.split_once('*') {
-            Some((times, bytes)) => (times.parse::<u32>()?, bytes),
-            None => (1, piece),
-        };
-        for _ in 0..times {
-            add_piece(&mut text, bytes.as_bytes())?;
-        }
+        add_repeated(&mut text, piece)?;
     }
     Ok(text)
 }

@@ -32,11 +32,8 @@ slice_get-set_other (x ∷ xs) zero (suc j) y ne = refl
 slice_get-set_other (x ∷ xs) (suc i) zero y ne = refl
 slice_get-set_other (x ∷ xs) (suc i) (suc j) y ne = slice_get-set_other xs i j y (λ e. ne (ap suc e))
 
-clash : {X : Type 0} {C : Type 0} {x : X} → None ≡ Some x → C
-clash e = let z : ◌≡◌ {A = ℕ} 0 1 = cc in absurd (omega arith)
-
 pub slice_get-set_same : {X : Type 0} (xs : List X) (i : ℕ) (x y : X) → slice_get xs i ≡ Some x → slice_get (set xs i y) i ≡ Some y
-slice_get-set_same [] i x y e = clash e
+slice_get-set_same [] i x y e = absurd cc
 slice_get-set_same (z ∷ xs) zero x y e = refl
 slice_get-set_same (z ∷ xs) (suc i) x y e = slice_get-set_same xs i x y e
 
@@ -51,7 +48,7 @@ slice_get-changed_other (x ∷ cs) (suc c) f (suc d) v ne = slice_get-changed_ot
 
 pub slice_get-changed : (cs : List StoredCell) (c f : ℕ) (v : Value) (x : StoredCell) → slice_get cs c ≡ Some x → slice_get (changed cs c f v) c ≡ Some (written x f v)
 unfolding changed
-slice_get-changed [] c f v x e = clash e
+slice_get-changed [] c f v x e = absurd cc
 slice_get-changed (y ∷ cs) zero f v x e = let p : y ≡ x = cc in ap (λ z. Some (written z f v)) p
 slice_get-changed (y ∷ cs) (suc c) f v x e = slice_get-changed cs c f v x e
 
@@ -68,11 +65,11 @@ pub record Found (m : Model) (c f : ℕ) (w : Value) : Type 0 where
   pub at_field : slice_get cell.fields f ≡ Some w
 
 found_in : (m : Model) (c f : ℕ) (w : Value) (o : Option StoredCell) → slice_get m.cells c ≡ o → field_in o f ≡ Ok w → Found m c f w
-found_in m c f w None e r = let z : ◌≡◌ {A = ℕ} 0 1 = cc in absurd (omega arith)
+found_in m c f w None e r = absurd cc
 found_in m c f w (Some x) e r = go (slice_get x.fields f) refl r
   where
     go : (o : Option Value) → slice_get x.fields f ≡ o → value_in o ≡ Ok w → Found m c f w
-    go None p q = let z : ◌≡◌ {A = ℕ} 0 1 = cc in absurd (omega arith)
+    go None p q = absurd cc
     go (Some y) p q = let g : y ≡ w = cc in record { cell = x; at_cell = e; at_field = p ∙ ap Some g }
 
 pub found : (m : Model) (c f : ℕ) (w : Value) → field_at m c f ≡ Ok w → Found m c f w
@@ -87,7 +84,7 @@ rows_kept m m' same =
       keeps = λ d r e.
           elim (cases_lt d (length m.cells)) [
             | inl h ↦ ap row_in (same d h) ∙ e
-            | inr h ↦ let z = slice_get_past m.cells d h in clash (simp z at e)
+            | inr h ↦ let z = slice_get_past m.cells d h in let e' = simp z at e in absurd cc
           ];
     }
 
@@ -149,18 +146,18 @@ module _ (m : Model) (h : Head) (n : ℕ) where
 -- what an answer of put says of the field
 pub done_ok : (o : Result Value Absent) (u : Unit {0}) → done o ≡ Ok u → (w : Value) × (o ≡ Ok w)
 done_ok (Ok w) u e = (w, refl)
-done_ok (Err x) u e = let z : ◌≡◌ {A = ℕ} 0 1 = cc in absurd (omega arith)
+done_ok (Err x) u e = absurd cc
 
 -- what an answer of make says of the number
 pub make_number : (m : Model) (n c : ℕ) → make_answer m n ≡ Ok c → c ≡ length m.cells
 unfolding make_answer
 make_number m n c e =
     elim (cases_Bool (ltb 8 n)) [
-      | inl a ↦ let e' = simp a at e in let z : ◌≡◌ {A = ℕ} 0 1 = cc in absurd (omega arith)
+      | inl a ↦ let e' = simp a at e in absurd cc
       | inr a ↦ elim (cases_Bool (ltb m.cell_limit (length m.cells + 1))) [
-        | inl b ↦ let e' = simp (a, b) at e in let z : ◌≡◌ {A = ℕ} 0 1 = cc in absurd (omega arith)
+        | inl b ↦ let e' = simp (a, b) at e in absurd cc
         | inr b ↦ elim (cases_Bool (ltb m.slot_limit (slots_of m + m.charge n))) [
-          | inl d ↦ let e' = simp (a, b, d) at e in let z : ◌≡◌ {A = ℕ} 0 1 = cc in absurd (omega arith)
+          | inl d ↦ let e' = simp (a, b, d) at e in absurd cc
           | inr d ↦ let e' = simp (a, b, d) at e in cc
         ]
       ]
@@ -182,4 +179,4 @@ put_field m m' c f v u r t a b =
 pub read_back : (m m' : Model) (c f : ℕ) (v : Value) (w : Result Value Absent) → OneField m m' c f v → w ≡ field_at m' c f
     → MatchResult w (λ x. (x ≡ v) × OneField m m' c f v) (λ e. (field_at m c f ≡ Err e) × (m' ≡ m))
 read_back m m' c f v (Ok x) o e = (let r = o.reads in cc, o)
-read_back m m' c f v (Err x) o e = let r = o.reads in let z : ◌≡◌ {A = ℕ} 0 1 = cc in absurd (omega arith)
+read_back m m' c f v (Err x) o e = let r = o.reads in absurd cc

@@ -1,5 +1,10 @@
+ghost use Rattle.std.specs.Prelude.{◌≡◌};
+ghost use Rattle.store.specs.Rows.{row_of};
+
+use values::types::{CellRow, Lineage};
+
 // What a cell is besides its fields: an object of a class, or an instance of a relationship between two cells.
-#[derive(Clone, Copy, PartialEq, Eq)]
+#[derive(Clone, Copy, PartialEq, Eq, Debug)]
 pub enum Head {
     Object {
         class: u8,
@@ -14,7 +19,7 @@ pub enum Head {
 }
 
 // Why no cell is made: over 8 fields, or else all cells are in use, or else too few slots are left.
-#[derive(Clone, Copy, PartialEq, Eq)]
+#[derive(Clone, Copy, PartialEq, Eq, Debug)]
 pub enum MakeRefusal {
     Fields,
     Cells,
@@ -22,8 +27,26 @@ pub enum MakeRefusal {
 }
 
 // What a question or a change names and the store lacks.
-#[derive(Clone, Copy, PartialEq, Eq)]
+#[derive(Clone, Copy, PartialEq, Eq, Debug)]
 pub enum Absent {
     Cell,
     Field,
+}
+
+// The row of a cell with that head.
+impl From<Head> for CellRow {
+    ghost from_gives = { λ head row. row ≡ row_of head };
+
+    fn from(head: Head) -> CellRow {
+        match head {
+            Head::Object { class } => CellRow {
+                lineage: Lineage::Class,
+                number: class,
+            },
+            Head::Instance { relationship, .. } => CellRow {
+                lineage: Lineage::Relationship,
+                number: relationship,
+            },
+        }
+    }
 }

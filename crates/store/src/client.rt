@@ -15,6 +15,7 @@ pub fn exchange<S: Store>(store: &mut S, cell: u8, field: u8, value: Value) -> R
 }
 
 // Makes an object of that class with that many fields.
+#[tactic(auto, using(crate::proofs::Frames::made_cell))]
 pub fn make_object<S: Store>(store: &mut S, class: u8, fields: u8) -> Result<u8, MakeRefusal>
     ensures { MatchResult result (λ c. OneCell (S.Store.model store.old) (S.Store.model store.new) (Head.Object class) fields c) (λ e. (make_answer (S.Store.model store.old) fields ≡ Err e) × (S.Store.model store.new ≡ S.Store.model store.old)) }
 {
@@ -22,11 +23,12 @@ pub fn make_object<S: Store>(store: &mut S, class: u8, fields: u8) -> Result<u8,
 }
 
 // Whether there is room for that many cells more that are charged that many slots together.
+#[tactic(auto, using(crate::proofs::Room::room_lasts), unfolding(crate::specs::Frames::has_room))]
 pub fn has_room<S: Store>(store: &S, cells: u8, slots: u16) -> bool
     ensures test { result ≡ has_room (S.Store.model store.now) cells slots }
     ensures lasts { RoomLasts (S.Store.model store.now) }
 {
-    let all_cells = store.cells() as u16 + cells as u16;
-    let all_slots = store.slots() as u32 + slots as u32;
-    all_cells <= store.cell_limit() as u16 && all_slots <= store.slot_limit() as u32
+    let all_cells = u16::from(store.cells()) + u16::from(cells);
+    let all_slots = u32::from(store.slots()) + u32::from(slots);
+    all_cells <= u16::from(store.cell_limit()) && all_slots <= u32::from(store.slot_limit())
 }

@@ -1,7 +1,7 @@
 // Stores of cells: what a store is.
 #![tactic(auto)]
 
-ghost use Rattle.std.specs.Prelude.{◌≡◌, length};
+ghost use Rattle.std.specs.Prelude.{◌≡◌, ◌+◌, ◌<◌, ◌≤◌, length, IfOk, OnOk};
 ghost use Rattle.store.specs.Laws.{Lawful};
 ghost use Rattle.store.specs.Model.{Model, after_make, after_put, cleared, field_at, fields_at, head_at, make_answer, put_answer, slots_of};
 
@@ -11,6 +11,11 @@ use values::value::Value;
 pub mod cell;
 pub mod client;
 pub mod rows;
+
+// The most fields of a cell, and the most cells of a store.
+pub const FIELD_LIMIT: usize = 8;
+
+pub const CELL_LIMIT: usize = 128;
 
 // A store of cells, numbered from 0 as they are made. Its limits and what it charges for a cell never change.
 // Questions and refusals change nothing.
@@ -57,6 +62,28 @@ pub trait Store {
     // The slots charged for a cell of that many fields.
     fn charge(&self, fields: u8) -> u8
         ensures { result ≡ (model self.now).charge fields };
+
+    // The number of the next cell, if a cell of that many fields can be made.
+    #[tactic(auto, unfolding(crate::specs::Model::make_answer))]
+    fn next_cell(&self, fields: u8) -> Result<u8, MakeRefusal>
+        ensures answer { result ≡ make_answer (model self.now) fields }
+        ensures number { IfOk result (λ cell. cell ≡ length (model self.now).cells) }
+        ensures fields { OnOk result (fields ≤ 8) }
+        ensures cells { OnOk result (length (model self.now).cells < (model self.now).cell_limit) }
+        ensures slots { OnOk result (slots_of (model self.now) + (model self.now).charge fields ≤ (model self.now).slot_limit) }
+    {
+        let cell = self.cells();
+        let slots = u32::from(self.slots()) + u32::from(self.charge(fields));
+        if fields as usize > FIELD_LIMIT {
+            Err(MakeRefusal::Fields)
+        } else if cell >= self.cell_limit() {
+            Err(MakeRefusal::Cells)
+        } else if slots > u32::from(self.slot_limit()) {
+            Err(MakeRefusal::Slots)
+        } else {
+            Ok(cell)
+        }
+    }
 
     ghost lawful: { (s : Self) → Lawful (model s) };
 }

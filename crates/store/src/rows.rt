@@ -4,10 +4,9 @@ ghost use Rattle.values.specs.Lines.{ancestry};
 ghost use Rattle.store.specs.Rows.{row_at};
 
 use crate::Store;
-use crate::cell::Head;
 use values::admission::{CellRows, admits};
 use values::lines::Lines;
-use values::types::{CellRow, Lineage, Ty};
+use values::types::{CellRow, Ty};
 use values::value::Value;
 
 // The cells of a store, by their rows.
@@ -20,17 +19,7 @@ impl<S: Store> CellRows for StoreRows<'_, S> {
     ghost rows = { λ r. row_at (S.Store.model r.store.now) };
 
     fn row_of(&self, cell: u8) -> Option<CellRow> {
-        match self.store.head(cell) {
-            None => None,
-            Some(Head::Object { class }) => Some(CellRow {
-                lineage: Lineage::Class,
-                number: class,
-            }),
-            Some(Head::Instance { relationship, .. }) => Some(CellRow {
-                lineage: Lineage::Relationship,
-                number: relationship,
-            }),
-        }
+        self.store.head(cell).map(CellRow::from)
     }
 }
 

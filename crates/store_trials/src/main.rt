@@ -2,27 +2,31 @@
 #![tactic(auto)]
 
 mod plain;
-mod random;
 mod trial;
 
 use even_store::even::EvenStore;
 use packed_store::packed::PackedStore;
-use plain::Plain;
-use trial::{fill, play};
+use plain::{Charging, Plain};
+use store::Store;
+use trial::Trial;
+
+fn report<S: Store + Drop>(
+    rt: &HostRuntime,
+    name: &str,
+    mut trial: Trial<S>,
+) -> anyhow::Result<()> {
+    let played = trial.play(30000)?;
+    println!(rt; "{name}, random: {played}")?;
+    let filled = trial.fill()?;
+    println!(rt; "{name}, filled: {filled}")?;
+    Ok(())
+}
 
 fn main(rt: HostRuntime) -> anyhow::Result<()> {
     let heap = rt.alloc();
-    let mut even = EvenStore::new();
-    let mut plain = Plain::new(heap, 1024, true);
-    let played = play(&mut even, &mut plain, 30000)?;
-    println!(rt; "even, random: {played}")?;
-    let filled = fill(&mut even, &mut plain)?;
-    println!(rt; "even, filled: {filled}")?;
-    let mut packed = PackedStore::new();
-    let mut plain = Plain::new(heap, 512, false);
-    let played = play(&mut packed, &mut plain, 30000)?;
-    println!(rt; "packed, random: {played}")?;
-    let filled = fill(&mut packed, &mut plain)?;
-    println!(rt; "packed, filled: {filled}")?;
+    let plain = Plain::new(heap, 1024, Charging::Even);
+    report(&rt, "even", Trial::new(EvenStore::new(), plain))?;
+    let plain = Plain::new(heap, 512, Charging::Packed);
+    report(&rt, "packed", Trial::new(PackedStore::new(), plain))?;
     Ok(())
 }

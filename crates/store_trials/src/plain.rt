@@ -2,10 +2,28 @@ use std::alloc::{AllocError, Global};
 use store::cell::{Absent, Head, MakeRefusal};
 use values::value::Value;
 
+// The most fields of a cell and the most cells, said here apart from the stores.
+pub(crate) const FIELD_LIMIT: u8 = 8;
+
+pub(crate) const CELL_LIMIT: u8 = 128;
+
+// The slots charged for a cell: as for one of 8 fields, or one for each field.
+#[derive(Clone, Copy)]
+pub enum Charging {
+    Even,
+    Packed,
+}
+
 #[derive(Drop)]
 pub struct PlainCell {
     pub head: Head,
     pub fields: Vec<Value>,
+}
+
+impl PlainCell {
+    fn count(&self) -> u8 {
+        u8::try_from(self.fields.len()).unwrap_or(255)
+    }
 }
 
 // A store as a list of cells on the heap.
@@ -14,16 +32,16 @@ pub struct Plain {
     heap: Global,
     cells: Vec<PlainCell>,
     slot_limit: u16,
-    even: bool,
+    charging: Charging,
 }
 
 impl Plain {
-    pub(crate) fn new(heap: Global, slot_limit: u16, even: bool) -> Plain {
+    pub(crate) fn new(heap: Global, slot_limit: u16, charging: Charging) -> Plain {
         Plain {
             heap,
             cells: Vec::new(heap),
             slot_limit,
-            even,
+            charging,
         }
     }
 
@@ -32,7 +50,10 @@ impl Plain {
     }
 
     pub(crate) fn charge(&self, fields: u8) -> u8 {
-        if self.even || fields > 8 { 8 } else { fields }
+        match self.charging {
+            Charging::Even => FIELD_LIMIT,
+            Charging::Packed => fields.min(FIELD_LIMIT),
+        }
     }
 
     pub(crate) fn cells(&self) -> usize {
@@ -44,12 +65,9 @@ impl Plain {
     }
 
     pub(crate) fn slots(&self) -> u16 {
-        let mut sum: u16 = 0;
-        for cell in self.cells.iter() {
-            let n = u8::try_from(cell.fields.len()).unwrap_or(255);
-            sum = sum.wrapping_add(u16::from(self.charge(n)));
-        }
-        sum
+        self.cells.iter().fold(0u16, |sum, cell| {
+            sum.wrapping_add(u16::from(self.charge(cell.count())))
+        })
     }
 
     pub(crate) fn make(
@@ -58,10 +76,10 @@ impl Plain {
         fields: u8,
     ) -> Result<Result<u8, MakeRefusal>, AllocError> {
         let cell = self.cells.len();
-        if fields > 8 {
+        if fields > FIELD_LIMIT {
             return Ok(Err(MakeRefusal::Fields));
         }
-        if cell >= 128 {
+        if cell >= usize::from(CELL_LIMIT) {
             return Ok(Err(MakeRefusal::Cells));
         }
         if self.slots().wrapping_add(u16::from(self.charge(fields))) > self.slot_limit {
@@ -73,39 +91,25 @@ impl Plain {
     }
 
     pub(crate) fn put(&mut self, cell: u8, field: u8, value: Value) -> Result<(), Absent> {
-        match self.cells.get_mut(cell as usize) {
-            None => Err(Absent::Cell),
-            Some(c) => match c.fields.get_mut(field as usize) {
-                None => Err(Absent::Field),
-                Some(v) => {
-                    *v = value;
-                    Ok(())
-                }
-            },
-        }
+        let cell = self.cells.get_mut(cell as usize).ok_or(Absent::Cell)?;
+        let held = cell.fields.get_mut(field as usize).ok_or(Absent::Field)?;
+        *held = value;
+        Ok(())
     }
 
     pub(crate) fn head(&self, cell: u8) -> Option<Head> {
-        match self.cells.get(cell as usize) {
-            None => None,
-            Some(c) => Some(c.head),
-        }
+        self.cells.get(cell as usize).map(|cell| cell.head)
     }
 
     pub(crate) fn fields(&self, cell: u8) -> Option<u8> {
-        match self.cells.get(cell as usize) {
-            None => None,
-            Some(c) => Some(u8::try_from(c.fields.len()).unwrap_or(255)),
-        }
+        self.cells.get(cell as usize).map(PlainCell::count)
     }
 
     pub(crate) fn value(&self, cell: u8, field: u8) -> Result<Value, Absent> {
-        match self.cells.get(cell as usize) {
-            None => Err(Absent::Cell),
-            Some(c) => match c.fields.get(field as usize) {
-                None => Err(Absent::Field),
-                Some(v) => Ok(*v),
-            },
-        }
+        let cell = self.cells.get(cell as usize).ok_or(Absent::Cell)?;
+        cell.fields
+            .get(field as usize)
+            .copied()
+            .ok_or(Absent::Field)
     }
 }

@@ -2,6 +2,9 @@
 use pairs::row::{PutRefusal, Row};
 use pairs::table::PairTable;
 
+// How many rows a table holds here.
+const LIMIT: u16 = 256;
+
 // Row number n of 256, all different, with relationships up to 31 and cells and instances up to 127.
 fn nth_row(n: u16) -> Row {
     Row {
@@ -12,79 +15,48 @@ fn nth_row(n: u16) -> Row {
     }
 }
 
-fn refused(said: Result<(), PutRefusal>, as_relationship: bool) -> bool {
-    match said {
-        Err(PutRefusal::BadRelationship) => as_relationship,
-        Err(PutRefusal::BadCell) => !as_relationship,
-        _ => false,
-    }
+// For how many of the rows it holds.
+fn counted<F: FnMut(Row) -> bool>(mut holds: F) -> usize
+    requires { (state : F) (row : _) → F.pre state row }
+{
+    (0..LIMIT).map(nth_row).filter(|row| holds(*row)).count()
 }
 
 // How many of the rows are found with their own instances.
-fn found<P: PairTable>(table: &P) -> u32 {
-    let mut found = 0u32;
-    for n in 0..256u16 {
-        let row = nth_row(n);
-        if table.find(row.relationship, row.from, row.to) == Some(row.instance) {
-            found = found.saturating_add(1);
-        }
-    }
-    found
+fn found<P: PairTable>(table: &P) -> usize {
+    counted(|row| table.find(row.link()) == Some(row.instance))
 }
 
 // Puts in as many rows as may be; how many were taken.
-fn filled<P: PairTable>(table: &mut P) -> u32 {
-    let mut taken = 0u32;
-    for n in 0..256u16 {
-        if table.put(nth_row(n)).is_ok() {
-            taken = taken.saturating_add(1);
-        }
-    }
-    taken
+fn filled<P: PairTable>(table: &mut P) -> usize {
+    counted(|row| table.put(row).is_ok())
 }
 
 // Takes every row out; how many were there.
-fn emptied<P: PairTable>(table: &mut P) -> u32 {
-    let mut dropped = 0u32;
-    for n in 0..256u16 {
-        let row = nth_row(n);
-        if table.drop_row(row.relationship, row.from, row.to) == Some(row.instance) {
-            dropped = dropped.saturating_add(1);
-        }
-    }
-    dropped
+fn emptied<P: PairTable>(table: &mut P) -> usize {
+    counted(|row| table.drop_row(row.link()) == Some(row.instance))
 }
 
 // Whether the numbers past the limits are refused, a bad relationship first.
 fn refuses_past<P: PairTable>(table: &mut P) -> bool {
+    let good = Row {
+        relationship: 31,
+        from: 0,
+        to: 0,
+        instance: 0,
+    };
     let bad_relationship = Row {
         relationship: 32,
         from: 128,
-        to: 0,
-        instance: 0,
+        ..good
     };
-    let bad_from = Row {
-        relationship: 31,
-        from: 128,
-        to: 0,
-        instance: 0,
-    };
-    let bad_to = Row {
-        relationship: 31,
-        from: 0,
-        to: 128,
-        instance: 0,
-    };
-    let bad_instance = Row {
-        relationship: 31,
-        from: 0,
-        to: 0,
-        instance: 128,
-    };
-    refused(table.put(bad_relationship), true)
-        && refused(table.put(bad_from), false)
-        && refused(table.put(bad_to), false)
-        && refused(table.put(bad_instance), false)
+    table.put(bad_relationship) == Err(PutRefusal::BadRelationship)
+        && table.put(Row { from: 128, ..good }) == Err(PutRefusal::BadCell)
+        && table.put(Row { to: 128, ..good }) == Err(PutRefusal::BadCell)
+        && table.put(Row {
+            instance: 128,
+            ..good
+        }) == Err(PutRefusal::BadCell)
 }
 
 // Whether one more row than the table holds is refused as such, and a row that is there with its instance.
@@ -95,35 +67,23 @@ fn refuses_more<P: PairTable>(table: &mut P) -> bool {
         to: 5,
         instance: 5,
     };
-    let full = match table.put(more) {
-        Err(PutRefusal::Full) => true,
-        _ => false,
-    };
-    let present = match table.put(nth_row(127)) {
-        Err(PutRefusal::Present(instance)) => instance == 127,
-        _ => false,
-    };
-    full && present && table.find(5, 5, 5).is_none()
+    table.put(more) == Err(PutRefusal::Full)
+        && table.put(nth_row(127)) == Err(PutRefusal::Present(127))
+        && table.find(more.link()).is_none()
 }
 
 // How many of eight checks hold.
-pub(crate) fn limits<P: PairTable>(table: &mut P) -> u32 {
+pub(crate) fn limits<P: PairTable>(table: &mut P) -> usize {
     table.clear();
     let checks = [
         refuses_past(table) && table.count() == 0,
         filled(table) == 256,
-        table.count() == 256 && table.limit() == 256,
+        table.count() == LIMIT && table.limit() == LIMIT,
         found(table) == 256,
-        refuses_more(table) && table.count() == 256,
+        refuses_more(table) && table.count() == LIMIT,
         table.to_cells(31, 0).contains(127) && table.instances(31, 127).contains(127),
         emptied(table) == 256,
         table.count() == 0 && found(table) == 0,
     ];
-    let mut good = 0u32;
-    for check in checks {
-        if check {
-            good = good.saturating_add(1);
-        }
-    }
-    good
+    checks.iter().filter(|check| **check).count()
 }

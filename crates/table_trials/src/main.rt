@@ -2,7 +2,6 @@
 // With an argument it measures how fast the tables are instead.
 #![tactic(auto)]
 
-mod dice;
 mod limits;
 mod model;
 mod sets;
@@ -16,7 +15,7 @@ use row_list::RowList;
 use sets::sets;
 use speed::speeds;
 use std::env;
-use trial::{Outcome, trial};
+use trial::trial;
 
 const SEED: u64 = 88172645463325252;
 
@@ -24,13 +23,8 @@ fn tried<P: PairTable>(rt: &HostRuntime, name: &str, table: &mut P) -> anyhow::R
     let good = limits(table);
     println!(rt; "{name} at its limits: {good} of 8 checks hold")?;
     table.clear();
-    let Outcome {
-        steps,
-        wrong,
-        most,
-        full,
-    } = trial(rt.alloc(), table, SEED, 20)?;
-    println!(rt; "{name}: {steps} calls, {wrong} wrong, at most {most} rows, {full} times full")?;
+    let outcome = trial(rt.alloc(), table, SEED, 20)?;
+    println!(rt; "{name}: {outcome}")?;
     Ok(())
 }
 

@@ -1,5 +1,5 @@
 // A pair table as a plain list of rows.
-use pairs::row::{PutRefusal, Row};
+use pairs::row::{Link, PutRefusal, Row};
 use std::alloc::{AllocError, Global};
 
 #[derive(Drop)]
@@ -24,56 +24,46 @@ impl Model {
         self.rows.len()
     }
 
-    pub(crate) fn find(&self, relationship: u8, from: u8, to: u8) -> Option<u8> {
-        for row in self.rows.iter() {
-            if row.relationship == relationship && row.from == from && row.to == to {
-                return Some(row.instance);
-            }
+    pub(crate) fn find(&self, link: Link) -> Option<u8> {
+        self.rows
+            .iter()
+            .find(|row| row.link() == link)
+            .map(|row| row.instance)
+    }
+
+    // What a table should answer to a put.
+    fn judged(&self, row: Row) -> Result<(), PutRefusal> {
+        if row.relationship > 31 {
+            return Err(PutRefusal::BadRelationship);
         }
-        None
+        if row.from > 127 || row.to > 127 || row.instance > 127 {
+            return Err(PutRefusal::BadCell);
+        }
+        if let Some(instance) = self.find(row.link()) {
+            return Err(PutRefusal::Present(instance));
+        }
+        if self.rows.len() >= self.limit {
+            return Err(PutRefusal::Full);
+        }
+        Ok(())
     }
 
     // What the table should answer; the row is added where that is good.
     pub(crate) fn put(&mut self, row: Row) -> Result<Result<(), PutRefusal>, AllocError> {
-        if row.relationship > 31 {
-            return Ok(Err(PutRefusal::BadRelationship));
+        let said = self.judged(row);
+        if said.is_ok() {
+            self.rows.push(row)?;
         }
-        if row.from > 127 || row.to > 127 || row.instance > 127 {
-            return Ok(Err(PutRefusal::BadCell));
-        }
-        if let Some(instance) = self.find(row.relationship, row.from, row.to) {
-            return Ok(Err(PutRefusal::Present(instance)));
-        }
-        if self.rows.len() >= self.limit {
-            return Ok(Err(PutRefusal::Full));
-        }
-        self.rows.push(row)?;
-        Ok(Ok(()))
+        Ok(said)
     }
 
-    pub(crate) fn drop_row(&mut self, relationship: u8, from: u8, to: u8) -> Option<u8> {
-        for i in 0..self.rows.len() {
-            let row = self.rows[i];
-            if row.relationship == relationship && row.from == from && row.to == to {
-                let gone = self.rows.remove(i);
-                return Some(gone.instance);
-            }
-        }
-        None
-    }
-
-    // Whether a row of the relationship from the cell leads to `to`.
-    pub(crate) fn leads_to(&self, relationship: u8, from: u8, to: u8) -> bool {
-        self.find(relationship, from, to).is_some()
+    pub(crate) fn drop_row(&mut self, link: Link) -> Option<u8> {
+        let place = self.rows.iter().position(|row| row.link() == link)?;
+        Some(self.rows.remove(place).instance)
     }
 
     // Whether a row of the relationship from the cell has the instance.
     pub(crate) fn has_instance(&self, relationship: u8, from: u8, instance: u8) -> bool {
-        for row in self.rows.iter() {
-            if row.relationship == relationship && row.from == from && row.instance == instance {
-                return true;
-            }
-        }
-        false
+        self.rows.iter().any(|row| row.leaves(relationship, from) && row.instance == instance)
     }
 }

@@ -1,6 +1,6 @@
 // Random calls of sets of cells, each compared with a plain list of members.
-use crate::dice::Dice;
 use cells::CellSet;
+use program_tools::random::Dice;
 use std::alloc::{AllocError, Global};
 
 // A set as the list of its members.
@@ -11,12 +11,7 @@ struct Members {
 
 impl Members {
     fn has(&self, cell: u8) -> bool {
-        for member in self.list.iter() {
-            if *member == cell {
-                return true;
-            }
-        }
-        false
+        self.list.contains(&cell)
     }
 
     fn put(&mut self, cell: u8) -> Result<(), AllocError> {
@@ -27,58 +22,41 @@ impl Members {
     }
 
     fn take(&mut self, cell: u8) {
-        for i in 0..self.list.len() {
-            if self.list[i] == cell {
-                let _ = self.list.remove(i);
-                return;
-            }
-        }
+        self.list.retain(|member| *member != cell);
     }
 
-    // Whether some member has the new number d.
+    // Whether some member has the new number d, which is a cell.
     fn goes_to(&self, table: &[u8; 128], d: u8) -> bool {
-        for member in self.list.iter() {
-            let c = *member as usize;
-            if c < 128 && table[c] == d {
-                return d < 128;
-            }
-        }
-        false
+        d < 128
+            && self
+                .list
+                .iter()
+                .any(|member| table.get(*member as usize) == Some(&d))
     }
 }
 
 // Whether the set has the same members, as many, and the same least one.
 fn agree(set: CellSet, members: &Members) -> bool {
-    for n in 0..256u16 {
-        let cell = n as u8;
-        if set.contains(cell) != members.has(cell) {
-            return false;
-        }
-    }
-    set.lowest() == members.list.iter().copied().min() && set.size() as usize == members.list.len()
+    (0..=u8::MAX).all(|cell| set.contains(cell) == members.has(cell))
+        && set.lowest() == members.list.iter().copied().min()
+        && set.size() as usize == members.list.len()
 }
 
 fn renumbers(set: CellSet, members: &Members, dice: &mut Dice) -> bool {
     let mut table = [255u8; 128];
-    for i in 0..128usize {
-        table[i] = dice.below(200);
+    for number in &mut table {
+        *number = dice.below(200);
     }
     let moved = set.renumbered(&table);
-    for n in 0..256u16 {
-        let cell = n as u8;
-        if moved.contains(cell) != members.goes_to(&table, cell) {
-            return false;
-        }
-    }
-    true
+    (0..=u8::MAX).all(|cell| moved.contains(cell) == members.goes_to(&table, cell))
 }
 
 // The set before and after a cell was put in or taken out: both together are the larger, and they are the same if that did nothing.
 fn joins(after: CellSet, before: CellSet, cell: u8) -> bool {
     let both = after.union(before);
     let nothing = before.contains(cell) == after.contains(cell);
-    both.same_members(before.with(cell)) == (both.contains(cell) || cell > 127)
-        && after.same_members(before) == nothing
+    (both == before.with(cell)) == (both.contains(cell) || cell > 127)
+        && (after == before) == nothing
 }
 
 // How many of the steps had a wrong set.
@@ -99,10 +77,10 @@ pub(crate) fn sets(heap: Global, seed: u64, steps: u32) -> Result<u32, AllocErro
             set = set.without(cell);
             members.take(cell);
         }
-        if !(agree(set, &members)
+        let right = agree(set, &members)
             && renumbers(set, &members, &mut dice)
-            && joins(set, before, cell))
-        {
+            && joins(set, before, cell);
+        if !right {
             wrong = wrong.saturating_add(1);
         }
     }

@@ -1,8 +1,8 @@
 // How many calls of a pair table are done in a second.
-use crate::dice::Dice;
 use anyhow::anyhow;
 use pairs::row::Row;
 use pairs::table::PairTable;
+use program_tools::random::Dice;
 use std::time::Instant;
 
 const CALLS: u32 = 1_000_000;
@@ -27,10 +27,7 @@ fn fill<P: PairTable>(table: &mut P, dice: &mut Dice, rows: u16) {
 
 // Calls in a second, from calls and the microseconds that they took.
 fn rate(calls: u32, micros: u128) -> u128 {
-    if micros == 0 {
-        return 0;
-    }
-    calls as u128 * 1_000_000 / micros
+    (calls as u128 * 1_000_000).checked_div(micros).unwrap_or(0)
 }
 
 fn finds<P: PairTable>(rt: &HostRuntime, table: &P, dice: &mut Dice) -> anyhow::Result<u128> {
@@ -38,7 +35,7 @@ fn finds<P: PairTable>(rt: &HostRuntime, table: &P, dice: &mut Dice) -> anyhow::
     let mut found = 0u32;
     for _ in 0..CALLS {
         let row = random_row(dice);
-        if table.find(row.relationship, row.from, row.to).is_some() {
+        if table.find(row.link()).is_some() {
             found = found.saturating_add(1);
         }
     }
@@ -60,7 +57,7 @@ fn puts<P: PairTable>(
     for _ in 0..calls {
         let row = random_row(dice);
         if table.put(row).is_ok() {
-            let _ = table.drop_row(row.relationship, row.from, row.to);
+            let _ = table.drop_row(row.link());
         }
     }
     let took = start.elapsed(rt)?;

@@ -1,12 +1,13 @@
 // Random calls of a pair table, each answer compared with that of a plain list.
-use crate::dice::Dice;
 use crate::model::Model;
-use pairs::row::{PutRefusal, Row};
+use pairs::row::{Link, PutRefusal, Row};
 use pairs::table::PairTable;
+use program_tools::random::Dice;
 use std::alloc::{AllocError, Global};
+use std::fmt;
 
 // What came of a trial.
-#[derive(Clone, Copy)]
+#[derive(Clone, Copy, Default)]
 pub struct Outcome {
     pub steps: u32,
     // answers that were not those of the list
@@ -17,22 +18,18 @@ pub struct Outcome {
     pub full: u32,
 }
 
-// Whether the two answers of put are the same.
-fn same(a: Result<(), PutRefusal>, b: Result<(), PutRefusal>) -> bool {
-    match (a, b) {
-        (Ok(()), Ok(())) => true,
-        (Err(PutRefusal::BadRelationship), Err(PutRefusal::BadRelationship)) => true,
-        (Err(PutRefusal::BadCell), Err(PutRefusal::BadCell)) => true,
-        (Err(PutRefusal::Present(i)), Err(PutRefusal::Present(j))) => i == j,
-        (Err(PutRefusal::Full), Err(PutRefusal::Full)) => true,
-        _ => false,
-    }
-}
-
-fn is_full(a: Result<(), PutRefusal>) -> bool {
-    match a {
-        Err(PutRefusal::Full) => true,
-        _ => false,
+impl fmt::Display for Outcome {
+    fn fmt<W: fmt::Write>(&self, f: &mut fmt::Formatter<W>) -> fmt::Result {
+        let Outcome {
+            steps,
+            wrong,
+            most,
+            full,
+        } = *self;
+        write!(
+            f,
+            "{steps} calls, {wrong} wrong, at most {most} rows, {full} times full"
+        )
     }
 }
 
@@ -40,19 +37,20 @@ fn is_full(a: Result<(), PutRefusal>) -> bool {
 fn agree<P: PairTable>(table: &P, model: &Model, relationship: u8, from: u8) -> bool {
     let to_cells = table.to_cells(relationship, from);
     let instances = table.instances(relationship, from);
-    for n in 0..256u16 {
-        let cell = n as u8;
-        if to_cells.contains(cell) != model.leads_to(relationship, from, cell) {
-            return false;
-        }
-        if instances.contains(cell) != model.has_instance(relationship, from, cell) {
-            return false;
-        }
-        if table.find(relationship, from, cell) != model.find(relationship, from, cell) {
-            return false;
-        }
-    }
-    table.count() as usize == model.count()
+    (0..=u8::MAX).all(|cell| {
+        let found = model.find(Link {
+            relationship,
+            from,
+            to: cell,
+        });
+        to_cells.contains(cell) == found.is_some()
+            && instances.contains(cell) == model.has_instance(relationship, from, cell)
+            && table.find(Link {
+                relationship,
+                from,
+                to: cell,
+            }) == found
+    }) && table.count() as usize == model.count()
 }
 
 // One call of the table and the list; the table fills up or runs empty.
@@ -69,19 +67,18 @@ fn step<P: PairTable>(
         to: dice.number(14, 127),
         instance: dice.number(128, 127),
     };
+    let link = row.link();
     let puts = if filling { 12 } else { 3 };
     let right = if dice.below(16) < puts {
         let said = table.put(row);
-        if is_full(said) {
+        if said == Err(PutRefusal::Full) {
             outcome.full = outcome.full.saturating_add(1);
         }
-        same(said, model.put(row)?)
+        said == model.put(row)?
     } else {
-        table.drop_row(row.relationship, row.from, row.to)
-            == model.drop_row(row.relationship, row.from, row.to)
+        table.drop_row(link) == model.drop_row(link)
     };
-    let found = table.find(row.relationship, row.from, row.to)
-        == model.find(row.relationship, row.from, row.to);
+    let found = table.find(link) == model.find(link);
     let whole = dice.below(32) > 0 || agree(table, model, row.relationship, row.from);
     if !(right
         && found
@@ -105,12 +102,7 @@ pub(crate) fn trial<P: PairTable>(
 ) -> Result<Outcome, AllocError> {
     let mut model = Model::new(heap, 256);
     let mut dice = Dice::new(seed);
-    let mut outcome = Outcome {
-        steps: 0,
-        wrong: 0,
-        most: 0,
-        full: 0,
-    };
+    let mut outcome = Outcome::default();
     for round in 0..rounds {
         for _ in 0..1500u32 {
             step(table, &mut model, &mut dice, round % 2 == 0, &mut outcome)?;

@@ -1,2 +1,3 @@
-pub mod Laws
+pub mod Chains
 pub mod Found
+pub mod Laws

@@ -1,2 +1,4 @@
 pub mod Below
+pub mod Items
 pub mod Listed
+pub mod Walks

@@ -8,47 +8,33 @@ ghost use Rattle.text_trials.specs.Verdicts.{line_of};
 ghost use Rattle.words.specs.Surveys.{surveyed};
 
 use grammar::judge::{TextRefusal, judge};
+use grammar::parse::Unexpected;
 use grammar::sink::Nowhere;
+use spelled_texts::spelled::decode;
 use std::alloc::{AllocError, Global};
 use std::io::{BufRead, BufReader};
-use words::survey::survey;
-
-mod spelled;
-
-use spelled::decode;
+use words::survey::{Extent, survey};
 
 // The line that is printed of a text.
 fn verdict(heap: Global, text: &[u8]) -> Result<String, AllocError>
     ensures { IfOk result (λ line. string_bytes line ≡ line_of (surveyed text.now)) }
 {
     match survey(text) {
-        Ok(extent) => {
-            let words = extent.words;
-            let depth = extent.depth;
-            format!(in heap; "ok {words} {depth}")
-        }
-        Err(refusal) => {
-            let number = refusal.number();
-            let place = refusal.place();
-            format!(in heap; "{number} {place}")
-        }
+        Ok(Extent { words, depth }) => format!(in heap; "ok {words} {depth}"),
+        Err(refusal) => format!(in heap; "{refusal}"),
     }
 }
 
 // What the grammar says of a text: a program, or the first word that cannot come.
 fn grammar_verdict(heap: Global, text: &[u8]) -> Result<String, AllocError> {
-    let mut sink = Nowhere;
-    match judge(text, &mut sink) {
+    match judge(text, &mut Nowhere) {
         Ok(_) => String::from_str(heap, "program"),
         Err(TextRefusal::Unreadable(_)) => String::from_str(heap, "-"),
-        Err(TextRefusal::Unexpected(word)) => {
-            let place = word.place;
-            format!(in heap; "13 {place}")
-        }
+        Err(refusal) => format!(in heap; "{refusal}"),
     }
 }
 
-fn judge_all(rt: &HostRuntime) -> anyhow::Result<()> {
+fn main(rt: HostRuntime) -> anyhow::Result<()> {
     let heap = rt.alloc();
     for line in BufReader::new(heap, rt.stdin())?.lines(heap) {
         let text = decode(heap, line?.as_str())?;
@@ -57,8 +43,4 @@ fn judge_all(rt: &HostRuntime) -> anyhow::Result<()> {
         println!(rt; "{words} / {grammar}")?;
     }
     Ok(())
-}
-
-fn main(rt: HostRuntime) -> anyhow::Result<()> {
-    judge_all(&rt)
 }

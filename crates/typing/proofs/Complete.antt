@@ -10,13 +10,12 @@ use Rattle.outline.specs.declared.entry.Node.{Node}
 use Rattle.outline.specs.Contents.{Contents}
 use Rattle.declarations.specs.declared.declarations.Ends.{Ends}
 use Rattle.declarations.specs.Resolved.{Declared}
-use Rattle.declarations.specs.Rows.{given}
+use Rattle.tables.specs.Items.{given}
 use Rattle.typing.specs.declared.step.Step.TheVariants as step
-use Rattle.typing.specs.declared.step.Ruling.TheVariants.{Done}
-use Rattle.typing.specs.HasType.{Is, EndsOf, Comparable, as_null, as_row, HasType, true_typed, false_typed, null_typed, this_typed, variable_typed, new_typed, partners_typed, field_typed, instances_typed, from_typed, to_typed, equal_typed, set_variable_typed, set_field_typed, add_typed, rem_typed, call_typed, InOrder, action_ordered, branch_ordered, return_ordered}
+use Rattle.typing.specs.HasType.{Is, Before, EndsOf, Comparable, as_null, as_row, HasType, true_typed, false_typed, null_typed, this_typed, variable_typed, new_typed, partners_typed, field_typed, instances_typed, from_typed, to_typed, equal_typed, set_variable_typed, set_field_typed, add_typed, rem_typed, call_typed, InOrder, action_ordered, branch_ordered, return_ordered}
 use Rattle.typing.specs.Lookup.{row_of_kind, as_relationship, relationship_of}
-use Rattle.typing.specs.Typing.{comparable, is_boolean, of_shape}
-use Rattle.typing.specs.Passing.{plain_node, node_at, type_of, ruling_by, types_to, ruling_at, type_at}
+use Rattle.typing.specs.Typing.{ordered, comparable, is_boolean, of_shape}
+use Rattle.typing.specs.Passing.{plain_node, node_at, type_of, part_type, ruling_by, types_to, ruling_at, type_at}
 use Rattle.typing.proofs.Upwards.{up_field, up_method}
 
 pub comparable_is : {t : Ty} → Comparable t → comparable t.kind ≡ true
@@ -28,12 +27,12 @@ relationship_is d t e h = ap (λ (j : Kind). given (row_of_kind j t.row) None (�
 
 module _ (text : List ℕ) (k : Contents) (d : Declared) where
   -- what is judged of a node, by its shape
-  pub judged : {i : ℕ} {s : Shape} {v : Node} → Is k i s v → ruling_at text k d i ≡ of_shape text k d s v.method v.name (types_to text k d i v.left) (types_to text k d i v.right)
+  pub judged : {i : ℕ} {s : Shape} {v : Node} → Is k i s v → ruling_at text k d i ≡ of_shape text k d s v.method (part_type (types_to text k d i) v.left) (part_type (types_to text k d i) v.right)
   unfolding ruling_at
   judged {i} {s} {v} is =
       let e : node_at k i ≡ v = ap (λ (o : Option Node). given o plain_node (λ x. x)) is.there in
       ap (ruling_by text k d (types_to text k d i)) e
-      ∙ ap (λ (z : Shape). of_shape text k d z v.method v.name (types_to text k d i v.left) (types_to text k d i v.right)) is.shaped
+      ∙ ap (λ (z : Shape). of_shape text k d z v.method (part_type (types_to text k d i) v.left) (part_type (types_to text k d i) v.right)) is.shaped
 
   -- later nodes do not change a type
   pub settled : (i j : ℕ) → j < i → types_to text k d i j ≡ type_at text k d j
@@ -45,11 +44,11 @@ module _ (text : List ℕ) (k : Contents) (d : Declared) where
         | inr ne ↦ cond-false (eqb j n) _ _ (ne_eqb j n ne) ∙ settled n j (omega arith)
       ]
 
-  pub part_typed : {i j : ℕ} {s : Ty} → j < i → type_at text k d j ≡ Some s → types_to text k d i j ≡ Some s
-  part_typed {i} {j} h q = settled i j h ∙ q
+  pub part_typed : {i j : ℕ} {part : Option ℕ} {s : Ty} → Before i part j → type_at text k d j ≡ Some s → part_type (types_to text k d i) part ≡ Some s
+  part_typed {i} {j} h q = ap (part_type (types_to text k d i)) h.is ∙ settled i j h.before ∙ q
 
   typed : {i : ℕ} {s : Shape} {v : Node} {t : Ty} → Is k i s v
-      → type_of (of_shape text k d s v.method v.name (types_to text k d i v.left) (types_to text k d i v.right)) ≡ Some t → type_at text k d i ≡ Some t
+      → type_of (of_shape text k d s v.method (part_type (types_to text k d i) v.left) (part_type (types_to text k d i) v.right)) ≡ Some t → type_at text k d i ≡ Some t
   unfolding type_at
   typed is q = ap type_of (judged is) ∙ q
 
@@ -70,9 +69,9 @@ module _ (text : List ℕ) (k : Contents) (d : Declared) where
         let b = r.ends in
         let g = fitting f in
         typed is (simp (l, a, b, g))
-    complete (field_typed {v = v} {s = s} is h p a u t) =
+    complete (field_typed {p = at} {s = s} is h p a u t) =
         let l = part_typed h (complete p) in
-        let f = up_field text k d lines v.name s _ u in
+        let f = up_field text k d lines at s _ u in
         typed is (simp (l, a, f, t))
     complete (instances_typed is h s r f) =
         let l = part_typed h (complete s) in
@@ -100,10 +99,10 @@ module _ (text : List ℕ) (k : Contents) (d : Declared) where
         let r = part_typed h (complete p) in
         let g = fitting f in
         typed is (simp (r, x, u, g))
-    complete (set_field_typed {v = v} {s = s} is h p i q a u b f) =
+    complete (set_field_typed {p = at} {s = s} is h p i q a u b f) =
         let l = part_typed h (complete p) in
         let r = part_typed i (complete q) in
-        let e = up_field text k d lines v.name s _ u in
+        let e = up_field text k d lines at s _ u in
         let g = fitting f in
         typed is (simp (l, r, a, e, b, g))
     complete (add_typed is h p i q x f g) =
@@ -122,15 +121,15 @@ module _ (text : List ℕ) (k : Contents) (d : Declared) where
         let y = fitting f in
         let z = fitting g in
         typed is (simp (l, r, a, b, y, z))
-    complete (call_typed {v = v} {s = s} is h p i q u b f) =
+    complete (call_typed {p = at} {s = s} is h p i q u b f) =
         let l = part_typed h (complete p) in
         let r = part_typed i (complete q) in
-        let e = up_method text k d lines v.name s _ u in
+        let e = up_method text k d lines at s _ u in
         let g = fitting f in
         typed is (simp (l, r, e, b, g))
 
     -- a statement in order is judged so
-    pub complete_ordered : {i : ℕ} → InOrder text k d i → (s : _) × (ruling_at text k d i ≡ Done s)
+    pub complete_ordered : {i : ℕ} → InOrder text k d i → (s : _) × (ruling_at text k d i ≡ ordered s)
     complete_ordered (action_ordered is h p) =
         let l = part_typed h (complete p) in
         (step.Drop, judged is ∙ simp l)

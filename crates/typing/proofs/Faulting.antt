@@ -18,16 +18,15 @@ use Rattle.tables.specs.Below.{least_below}
 use Rattle.tables.proofs.Found.{least_none, least_among, least_lowest}
 use Rattle.declarations.specs.declared.declarations.Signature.{Signature}
 use Rattle.declarations.specs.Resolved.{Declared}
-use Rattle.declarations.specs.Rows.{given}
+use Rattle.tables.specs.Items.{given}
 use Rattle.typing.specs.declared.step.Step.{Step}
 use Rattle.typing.specs.declared.step.Step.TheVariants as step
-use Rattle.typing.specs.declared.step.Ruling.{Ruling}
-use Rattle.typing.specs.declared.step.Ruling.TheVariants.{Typed, Done, Waits, Fault}
-use Rattle.typing.specs.HasType.{HasType, InOrder, action_ordered, branch_ordered, return_ordered}
+use Rattle.typing.specs.declared.step.Ruling.TheVariants as ruling
+use Rattle.typing.specs.HasType.{Before, HasType, InOrder, action_ordered, branch_ordered, return_ordered}
 use Rattle.typing.specs.Faults.{has_left, has_right, Ready, AtFault, FirstFault}
 use Rattle.typing.specs.Lookup.{class_named, relationship_named, relationship_of, variable_named, variable_number, field_from, method_from}
-use Rattle.typing.specs.Typing.{type_of_row, set_of_row, comparable, pair_named, this_ruling, variable_ruling, new_ruling, partners_ruling, field_ruling, member_ruling, instances_ruling, from_ruling, to_ruling, compare_ruling, set_variable_ruling, set_field_ruling, set_member_ruling, add_ruling, rem_ruling, call_ruling, is_boolean, branch_ruling, return_ruling, of_shape}
-use Rattle.typing.specs.Passing.{plain_node, node_at, type_of, types_to, ruling_at, type_at, fault_place, untyped}
+use Rattle.typing.specs.Typing.{Ruled, ruled, ordered, waiting, faulty, type_of_row, set_of_row, comparable, pair_named, this_ruling, variable_ruling, new_ruling, partners_ruling, field_ruling, member_ruling, instances_ruling, from_ruling, to_ruling, compare_ruling, set_variable_ruling, set_field_ruling, set_member_ruling, add_ruling, rem_ruling, call_ruling, is_boolean, branch_ruling, return_ruling, of_shape}
+use Rattle.typing.specs.Passing.{plain_node, node_at, type_of, part_type, types_to, ruling_at, type_at, fault_place, untyped}
 use Rattle.typing.proofs.Complete.{judged, settled, part_typed, complete, complete_ordered}
 use Rattle.typing.proofs.Judging.{none_later}
 use Rattle.typing.proofs.Sound.{sound}
@@ -37,33 +36,33 @@ absurdly z = absurd (omega arith)
 
 -- The rules of expressions give a type or a fault.
 
-settles : Ruling → Bool
-settles (Typed t s) = true
-settles (Done s) = false
-settles Waits = false
-settles Fault = true
+settles : Ruled → Bool
+settles (Some (ruling.Typed t s)) = true
+settles (Some (ruling.Done s)) = false
+settles (Some ruling.Waits) = false
+settles None = true
 
-given_settles : {X : Type 0} (o : Option X) (f : X → Ruling) → ((x : X) → settles (f x) ≡ true) → settles (given o Fault f) ≡ true
+given_settles : {X : Type 0} (o : Option X) (f : X → Ruled) → ((x : X) → settles (f x) ≡ true) → settles (given o faulty f) ≡ true
 unfolding settles
 given_settles None f h = refl
 given_settles (Some x) f h = h x
 
-cond_settles : (b : Bool) (t : Ty) (s : Step) → settles (cond b (Typed t s) Fault) ≡ true
+cond_settles : (b : Bool) (t : Ty) (s : Step) → settles (cond b (ruled t s) faulty) ≡ true
 unfolding settles
 cond_settles true t s = refl
 cond_settles false t s = refl
 
-deep_settles : {X Y : Type 0} (o : Option X) (g : X → Option Y) (f : X → Y → Ruling) → ((x : X) (y : Y) → settles (f x y) ≡ true)
-    → settles (given o Fault (λ x. given (g x) Fault (f x))) ≡ true
-deep_settles o g f h = given_settles o (λ x. given (g x) Fault (f x)) (λ x. given_settles (g x) (f x) (h x))
+deep_settles : {X Y : Type 0} (o : Option X) (g : X → Option Y) (f : X → Y → Ruled) → ((x : X) (y : Y) → settles (f x y) ≡ true)
+    → settles (given o faulty (λ x. given (g x) faulty (f x))) ≡ true
+deep_settles o g f h = given_settles o (λ x. given (g x) faulty (f x)) (λ x. given_settles (g x) (f x) (h x))
 
 this_settles : (k : Contents) (m : ℕ) → settles (this_ruling k m) ≡ true
 unfolding settles
-this_settles k m = given_settles (slice_get k.methods m) (λ x. Typed (type_of_row x.owner) step.This) (λ x. refl)
+this_settles k m = given_settles (slice_get k.methods m) (λ x. ruled (type_of_row x.owner) step.This) (λ x. refl)
 
 new_settles : (text : List ℕ) (k : Contents) (p : ℕ) → settles (new_ruling text k p) ≡ true
 unfolding settles
-new_settles text k p = given_settles (class_named text k p) (λ n. Typed (row_type Class n) (step.New n)) (λ n. refl)
+new_settles text k p = given_settles (class_named text k p) (λ n. ruled (row_type Class n) (step.New n)) (λ n. refl)
 
 compare_settles : (s t : Ty) → settles (compare_ruling s t) ≡ true
 compare_settles s t = cond_settles (comparable s.kind && comparable t.kind) boolean step.Compare
@@ -71,25 +70,25 @@ compare_settles s t = cond_settles (comparable s.kind && comparable t.kind) bool
 module _ (d : Declared) where
   partners_settles : (s : Ty) (r : ℕ) → settles (partners_ruling d s r) ≡ true
   partners_settles s r =
-      given_settles (slice_get d.ends r) (λ e. cond (fits_to d.ancestry s (type_of_row e.first)) (Typed (set_of_row e.second) (step.Partners r)) Fault)
+      given_settles (slice_get d.ends r) (λ e. cond (fits_to d.ancestry s (type_of_row e.first)) (ruled (set_of_row e.second) (step.Partners r)) faulty)
       (λ e. cond_settles (fits_to d.ancestry s (type_of_row e.first)) (set_of_row e.second) (step.Partners r))
 
   from_settles : (s : Ty) → settles (from_ruling d s) ≡ true
   unfolding settles
-  from_settles s = deep_settles (relationship_of s) (slice_get d.ends) (λ r e. Typed (type_of_row e.first) step.From) (λ r e. refl)
+  from_settles s = deep_settles (relationship_of s) (slice_get d.ends) (λ r e. ruled (type_of_row e.first) step.From) (λ r e. refl)
 
   to_settles : (s : Ty) → settles (to_ruling d s) ≡ true
   unfolding settles
-  to_settles s = deep_settles (relationship_of s) (slice_get d.ends) (λ r e. Typed (type_of_row e.second) step.To) (λ r e. refl)
+  to_settles s = deep_settles (relationship_of s) (slice_get d.ends) (λ r e. ruled (type_of_row e.second) step.To) (λ r e. refl)
 
 module _ (text : List ℕ) (k : Contents) (d : Declared) where
   variable_settles : (m p : ℕ) → settles (variable_ruling text k d m p) ≡ true
   unfolding settles
-  variable_settles m p = deep_settles (variable_named text k m p) (slice_get d.variables) (λ i t. Typed t (step.Variable (variable_number k m i))) (λ i t. refl)
+  variable_settles m p = deep_settles (variable_named text k m p) (slice_get d.variables) (λ i t. ruled t (step.Variable (variable_number k m i))) (λ i t. refl)
 
   field_settles : (s : Ty) (p : ℕ) → settles (field_ruling text k d s p) ≡ true
   unfolding settles
-  field_settles s p = deep_settles (field_from text k d s p) (slice_get d.fields) (λ f t. Typed t (step.Field f)) (λ f t. refl)
+  field_settles s p = deep_settles (field_from text k d s p) (slice_get d.fields) (λ f t. ruled t (step.Field f)) (λ f t. refl)
 
   member_or : (s : Ty) (p : ℕ) (o : Option ℕ) → settles (given o (field_ruling text k d s p) (partners_ruling d s)) ≡ true
   member_or s p None = field_settles s p
@@ -101,20 +100,20 @@ module _ (text : List ℕ) (k : Contents) (d : Declared) where
   instances_settles : (s : Ty) (p : ℕ) → settles (instances_ruling text k d s p) ≡ true
   instances_settles s p =
       deep_settles (relationship_named text k p) (slice_get d.ends)
-      (λ r e. cond (fits_to d.ancestry s (type_of_row e.first)) (Typed (set_type Relationship r) (step.Instances r)) Fault)
+      (λ r e. cond (fits_to d.ancestry s (type_of_row e.first)) (ruled (set_type Relationship r) (step.Instances r)) faulty)
       (λ r e. cond_settles (fits_to d.ancestry s (type_of_row e.first)) (set_type Relationship r) (step.Instances r))
 
   set_variable_settles : (m p : ℕ) (t : Ty) → settles (set_variable_ruling text k d m p t) ≡ true
   set_variable_settles m p t =
-      deep_settles (variable_named text k m p) (slice_get d.variables) (λ i u. cond (fits_to d.ancestry t u) (Typed t (step.SetVariable (variable_number k m i))) Fault)
+      deep_settles (variable_named text k m p) (slice_get d.variables) (λ i u. cond (fits_to d.ancestry t u) (ruled t (step.SetVariable (variable_number k m i))) faulty)
       (λ i u. cond_settles (fits_to d.ancestry t u) t (step.SetVariable (variable_number k m i)))
 
   set_field_settles : (s : Ty) (p : ℕ) (t : Ty) → settles (set_field_ruling text k d s p t) ≡ true
   set_field_settles s p t =
-      deep_settles (field_from text k d s p) (slice_get d.fields) (λ f u. cond (fits_to d.ancestry t u) (Typed t (step.SetField f)) Fault)
+      deep_settles (field_from text k d s p) (slice_get d.fields) (λ f u. cond (fits_to d.ancestry t u) (ruled t (step.SetField f)) faulty)
       (λ f u. cond_settles (fits_to d.ancestry t u) t (step.SetField f))
 
-  set_member_or : (s : Ty) (p : ℕ) (t : Ty) (o : Option ℕ) → settles (given o (set_field_ruling text k d s p t) (λ r. Fault)) ≡ true
+  set_member_or : (s : Ty) (p : ℕ) (t : Ty) (o : Option ℕ) → settles (given o (set_field_ruling text k d s p t) (λ r. faulty)) ≡ true
   unfolding settles
   set_member_or s p t None = set_field_settles s p t
   set_member_or s p t (Some r) = refl
@@ -124,89 +123,89 @@ module _ (text : List ℕ) (k : Contents) (d : Declared) where
 
   add_settles : (p : ℕ) (s t : Ty) → settles (add_ruling text k d p s t) ≡ true
   unfolding settles
-  add_settles p s t = given_settles (pair_named text k d p s t) (λ r. Typed (row_type Relationship r) (step.Add r)) (λ r. refl)
+  add_settles p s t = given_settles (pair_named text k d p s t) (λ r. ruled (row_type Relationship r) (step.Add r)) (λ r. refl)
 
   rem_settles : (p : ℕ) (s t : Ty) → settles (rem_ruling text k d p s t) ≡ true
   unfolding settles
-  rem_settles p s t = given_settles (pair_named text k d p s t) (λ r. Typed (row_type Relationship r) (step.Rem r)) (λ r. refl)
+  rem_settles p s t = given_settles (pair_named text k d p s t) (λ r. ruled (row_type Relationship r) (step.Rem r)) (λ r. refl)
 
   call_settles : (s : Ty) (p : ℕ) (t : Ty) → settles (call_ruling text k d s p t) ≡ true
   call_settles s p t =
-      deep_settles (method_from text k d s p) (slice_get d.methods) (λ m g. cond (fits_to d.ancestry t g.parameter) (Typed g.result (step.Call m)) Fault)
+      deep_settles (method_from text k d s p) (slice_get d.methods) (λ m g. cond (fits_to d.ancestry t g.parameter) (ruled g.result (step.Call m)) faulty)
       (λ m g. cond_settles (fits_to d.ancestry t g.parameter) g.result (step.Call m))
 
 -- What a ruling that settles is not.
 
-not_waits : {C : Type 0} (r : Ruling) → settles r ≡ true → r ≡ Waits → C
+not_waits : {C : Type 0} (r : Ruled) → settles r ≡ true → r ≡ waiting → C
 unfolding settles
-not_waits (Typed t s) h e = absurdly (cc)
-not_waits (Done s) h e = absurdly (cc)
-not_waits Waits h e = absurdly (cc)
-not_waits Fault h e = absurdly (cc)
+not_waits (Some (ruling.Typed t s)) h e = absurdly (cc)
+not_waits (Some (ruling.Done s)) h e = absurdly (cc)
+not_waits (Some ruling.Waits) h e = absurdly (cc)
+not_waits None h e = absurdly (cc)
 
-not_done : {C : Type 0} {z : Step} (r : Ruling) → settles r ≡ true → r ≡ Done z → C
+not_done : {C : Type 0} {z : Step} (r : Ruled) → settles r ≡ true → r ≡ ordered z → C
 unfolding settles
-not_done (Typed t s) h e = absurdly (cc)
-not_done (Done s) h e = absurdly (cc)
-not_done Waits h e = absurdly (cc)
-not_done Fault h e = absurdly (cc)
+not_done (Some (ruling.Typed t s)) h e = absurdly (cc)
+not_done (Some (ruling.Done s)) h e = absurdly (cc)
+not_done (Some ruling.Waits) h e = absurdly (cc)
+not_done None h e = absurdly (cc)
 
-test_moves : {C : Type 0} (b : Bool) (s : Step) → cond b (Done s) Fault ≡ Waits → C
+test_moves : {C : Type 0} (b : Bool) (s : Step) → cond b (ordered s) faulty ≡ waiting → C
 test_moves true s e = absurdly (cc)
 test_moves false s e = absurdly (cc)
 
 -- A node waits only for a part, and is at fault only with its parts.
 
-one_waits : (o : Option Ty) (f : Ty → Ruling) → ((s : Ty) → settles (f s) ≡ true) → given o Waits f ≡ Waits → o ≡ None
+one_waits : (o : Option Ty) (f : Ty → Ruled) → ((s : Ty) → settles (f s) ≡ true) → given o waiting f ≡ waiting → o ≡ None
 one_waits None f h e = refl
 one_waits (Some s) f h e = not_waits (f s) (h s) e
 
-two_waits : (a b : Option Ty) (f : Ty → Ty → Ruling) → ((s t : Ty) → settles (f s t) ≡ true) → given a Waits (λ s. given b Waits (f s)) ≡ Waits → (a ≡ None) ⊎ (b ≡ None)
+two_waits : (a b : Option Ty) (f : Ty → Ty → Ruled) → ((s t : Ty) → settles (f s t) ≡ true) → given a waiting (λ s. given b waiting (f s)) ≡ waiting → (a ≡ None) ⊎ (b ≡ None)
 two_waits None b f h e = inl refl
 two_waits (Some s) None f h e = inr refl
 two_waits (Some s) (Some t) f h e = not_waits (f s t) (h s t) e
 
-one_done : {C : Type 0} {z : Step} (o : Option Ty) (f : Ty → Ruling) → ((s : Ty) → settles (f s) ≡ true) → given o Waits f ≡ Done z → C
+one_done : {C : Type 0} {z : Step} (o : Option Ty) (f : Ty → Ruled) → ((s : Ty) → settles (f s) ≡ true) → given o waiting f ≡ ordered z → C
 one_done None f h e = absurdly (cc)
 one_done (Some s) f h e = not_done (f s) (h s) e
 
-two_done : {C : Type 0} {z : Step} (a b : Option Ty) (f : Ty → Ty → Ruling) → ((s t : Ty) → settles (f s t) ≡ true) → given a Waits (λ s. given b Waits (f s)) ≡ Done z → C
+two_done : {C : Type 0} {z : Step} (a b : Option Ty) (f : Ty → Ty → Ruled) → ((s t : Ty) → settles (f s t) ≡ true) → given a waiting (λ s. given b waiting (f s)) ≡ ordered z → C
 two_done None b f h e = absurdly (cc)
 two_done (Some s) None f h e = absurdly (cc)
 two_done (Some s) (Some t) f h e = not_done (f s t) (h s t) e
 
-one_fault : (o : Option Ty) (f : Ty → Ruling) → given o Waits f ≡ Fault → (s : Ty) × (o ≡ Some s)
+one_fault : (o : Option Ty) (f : Ty → Ruled) → given o waiting f ≡ faulty → (s : Ty) × (o ≡ Some s)
 one_fault None f e = absurdly (cc)
 one_fault (Some s) f e = (s, refl)
 
-two_fault : (a b : Option Ty) (f : Ty → Ty → Ruling) → given a Waits (λ s. given b Waits (f s)) ≡ Fault → ((s : Ty) × (a ≡ Some s)) × ((t : Ty) × (b ≡ Some t))
+two_fault : (a b : Option Ty) (f : Ty → Ty → Ruled) → given a waiting (λ s. given b waiting (f s)) ≡ faulty → ((s : Ty) × (a ≡ Some s)) × ((t : Ty) × (b ≡ Some t))
 two_fault None b f e = absurdly (cc)
 two_fault (Some s) None f e = absurdly (cc)
 two_fault (Some s) (Some t) f e = ((s, refl), (t, refl))
 
-action_waits : (o : Option Ty) → given o Waits (λ s. Done step.Drop) ≡ Waits → o ≡ None
+action_waits : (o : Option Ty) → given o waiting (λ s. ordered step.Drop) ≡ waiting → o ≡ None
 action_waits None e = refl
 action_waits (Some s) e = absurdly (cc)
 
-branch_waits : (o : Option Ty) → given o Waits branch_ruling ≡ Waits → o ≡ None
+branch_waits : (o : Option Ty) → given o waiting branch_ruling ≡ waiting → o ≡ None
 branch_waits None e = refl
 branch_waits (Some s) e = test_moves (is_boolean s.kind) step.Branch e
 
-result_waits : {C : Type 0} (d : Declared) (s : Ty) (o : Option Signature) → given o Fault (λ g. cond (fits_to d.ancestry s g.result) (Done step.Return) Fault) ≡ Waits → C
+result_waits : {C : Type 0} (d : Declared) (s : Ty) (o : Option Signature) → given o faulty (λ g. cond (fits_to d.ancestry s g.result) (ordered step.Return) faulty) ≡ waiting → C
 result_waits d s None e = absurdly (cc)
 result_waits d s (Some g) e = test_moves (fits_to d.ancestry s g.result) step.Return e
 
-return_waits : (d : Declared) (m : ℕ) (o : Option Ty) → given o Waits (return_ruling d m) ≡ Waits → o ≡ None
+return_waits : (d : Declared) (m : ℕ) (o : Option Ty) → given o waiting (return_ruling d m) ≡ waiting → o ≡ None
 return_waits d m None e = refl
 return_waits d m (Some s) e = result_waits d s (slice_get d.methods m) e
 
 -- What a statement in order shows.
 
-test_done : {z : Step} (b : Bool) (s : Step) → cond b (Done s) Fault ≡ Done z → b ≡ true
+test_done : {z : Step} (b : Bool) (s : Step) → cond b (ordered s) faulty ≡ ordered z → b ≡ true
 test_done true s e = refl
 test_done false s e = absurdly (cc)
 
-action_done : {z : Step} (o : Option Ty) → given o Waits (λ s. Done step.Drop) ≡ Done z → (s : Ty) × (o ≡ Some s)
+action_done : {z : Step} (o : Option Ty) → given o waiting (λ s. ordered step.Drop) ≡ ordered z → (s : Ty) × (o ≡ Some s)
 action_done None e = absurdly (cc)
 action_done (Some s) e = (s, refl)
 
@@ -216,168 +215,169 @@ is_boolean_lem Null e = absurdly (cc)
 is_boolean_lem (Row l) e = absurdly (cc)
 is_boolean_lem (Set l) e = absurdly (cc)
 
-branch_done : {z : Step} (o : Option Ty) → given o Waits branch_ruling ≡ Done z → (s : Ty) × (o ≡ Some s) × (s.kind ≡ Boolean)
+branch_done : {z : Step} (o : Option Ty) → given o waiting branch_ruling ≡ ordered z → (s : Ty) × (o ≡ Some s) × (s.kind ≡ Boolean)
 branch_done None e = absurdly (cc)
 branch_done (Some s) e = (s, refl, is_boolean_lem s.kind (test_done (is_boolean s.kind) step.Branch e))
 
-result_done : {z : Step} (d : Declared) (s : Ty) (o : Option Signature) → given o Fault (λ g. cond (fits_to d.ancestry s g.result) (Done step.Return) Fault) ≡ Done z
+result_done : {z : Step} (d : Declared) (s : Ty) (o : Option Signature) → given o faulty (λ g. cond (fits_to d.ancestry s g.result) (ordered step.Return) faulty) ≡ ordered z
     → (g : Signature) × (o ≡ Some g) × (fits_to d.ancestry s g.result ≡ true)
 result_done d s None e = absurdly (cc)
 result_done d s (Some g) e = (g, refl, test_done (fits_to d.ancestry s g.result) step.Return e)
 
-return_done : {z : Step} (d : Declared) (m : ℕ) (o : Option Ty) → given o Waits (return_ruling d m) ≡ Done z
+return_done : {z : Step} (d : Declared) (m : ℕ) (o : Option Ty) → given o waiting (return_ruling d m) ≡ ordered z
     → (s : Ty) × (o ≡ Some s) × ((g : Signature) × (slice_get d.methods m ≡ Some g) × (fits_to d.ancestry s g.result ≡ true))
 return_done d m None e = absurdly (cc)
 return_done d m (Some s) e = (s, refl, result_done d s (slice_get d.methods m) e)
 
 -- By shape.
 
-module _ (text : List ℕ) (k : Contents) (d : Declared) (m p : ℕ) (left right : Option Ty) where
-  pub waits_for : (x : Shape) → of_shape text k d x m p left right ≡ Waits → ((has_left x ≡ true) × (left ≡ None)) ⊎ ((has_right x ≡ true) × (right ≡ None))
+module _ (text : List ℕ) (k : Contents) (d : Declared) (m : ℕ) (left right : Option Ty) where
+  pub waits_for : (x : Shape) → of_shape text k d x m left right ≡ waiting → ((has_left x ≡ true) × (left ≡ None)) ⊎ ((has_right x ≡ true) × (right ≡ None))
   unfolding settles
-  waits_for shape.Variable e = not_waits (variable_ruling text k d m p) (variable_settles text k d m p) e
+  waits_for (shape.Variable p) e = not_waits (variable_ruling text k d m p) (variable_settles text k d m p) e
   waits_for shape.True e = absurdly (cc)
   waits_for shape.False e = absurdly (cc)
   waits_for shape.Null e = absurdly (cc)
   waits_for shape.This e = not_waits (this_ruling k m) (this_settles k m) e
-  waits_for shape.New e = not_waits (new_ruling text k p) (new_settles text k p) e
-  waits_for shape.Add e = elim (two_waits left right (add_ruling text k d p) (λ s t. add_settles text k d p s t) e) [ inl a ↦ inl (refl, a) | inr a ↦ inr (refl, a) ]
-  waits_for shape.Rem e = elim (two_waits left right (rem_ruling text k d p) (λ s t. rem_settles text k d p s t) e) [ inl a ↦ inl (refl, a) | inr a ↦ inr (refl, a) ]
-  waits_for shape.Member e = inl (refl, one_waits left (λ s. member_ruling text k d s p) (λ s. member_settles text k d s p) e)
-  waits_for shape.Call e = elim (two_waits left right (λ s t. call_ruling text k d s p t) (λ s t. call_settles text k d s p t) e) [ inl a ↦ inl (refl, a) | inr a ↦ inr (refl, a) ]
-  waits_for shape.Instances e = inl (refl, one_waits left (λ s. instances_ruling text k d s p) (λ s. instances_settles text k d s p) e)
+  waits_for (shape.New p) e = not_waits (new_ruling text k p) (new_settles text k p) e
+  waits_for (shape.Add p) e = elim (two_waits left right (add_ruling text k d p) (λ s t. add_settles text k d p s t) e) [ inl a ↦ inl (refl, a) | inr a ↦ inr (refl, a) ]
+  waits_for (shape.Rem p) e = elim (two_waits left right (rem_ruling text k d p) (λ s t. rem_settles text k d p s t) e) [ inl a ↦ inl (refl, a) | inr a ↦ inr (refl, a) ]
+  waits_for (shape.Member p) e = inl (refl, one_waits left (λ s. member_ruling text k d s p) (λ s. member_settles text k d s p) e)
+  waits_for (shape.Call p) e = elim (two_waits left right (λ s t. call_ruling text k d s p t) (λ s t. call_settles text k d s p t) e) [ inl a ↦ inl (refl, a) | inr a ↦ inr (refl, a) ]
+  waits_for (shape.Instances p) e = inl (refl, one_waits left (λ s. instances_ruling text k d s p) (λ s. instances_settles text k d s p) e)
   waits_for shape.From e = inl (refl, one_waits left (from_ruling d) (from_settles d) e)
   waits_for shape.To e = inl (refl, one_waits left (to_ruling d) (to_settles d) e)
   waits_for shape.Equal e = elim (two_waits left right compare_ruling compare_settles e) [ inl a ↦ inl (refl, a) | inr a ↦ inr (refl, a) ]
-  waits_for shape.SetVariable e = inr (refl, one_waits right (set_variable_ruling text k d m p) (set_variable_settles text k d m p) e)
-  waits_for shape.SetMember e = elim (two_waits left right (λ s t. set_member_ruling text k d s p t) (λ s t. set_member_settles text k d s p t) e) [ inl a ↦ inl (refl, a) | inr a ↦ inr (refl, a) ]
+  waits_for (shape.SetVariable p) e = inr (refl, one_waits right (set_variable_ruling text k d m p) (set_variable_settles text k d m p) e)
+  waits_for (shape.SetMember p) e = elim (two_waits left right (λ s t. set_member_ruling text k d s p t) (λ s t. set_member_settles text k d s p t) e) [ inl a ↦ inl (refl, a) | inr a ↦ inr (refl, a) ]
   waits_for shape.Action e = inl (refl, action_waits left e)
   waits_for shape.Branch e = inl (refl, branch_waits left e)
   waits_for shape.Return e = inl (refl, return_waits d m left e)
 
-  fault_left : (x : Shape) → of_shape text k d x m p left right ≡ Fault → has_left x ≡ true → (s : Ty) × (left ≡ Some s)
-  fault_left shape.Variable e h = absurdly (cc)
+  fault_left : (x : Shape) → of_shape text k d x m left right ≡ faulty → has_left x ≡ true → (s : Ty) × (left ≡ Some s)
+  fault_left (shape.Variable p) e h = absurdly (cc)
   fault_left shape.True e h = absurdly (cc)
   fault_left shape.False e h = absurdly (cc)
   fault_left shape.Null e h = absurdly (cc)
   fault_left shape.This e h = absurdly (cc)
-  fault_left shape.New e h = absurdly (cc)
-  fault_left shape.Add e h = (two_fault left right (add_ruling text k d p) e).0
-  fault_left shape.Rem e h = (two_fault left right (rem_ruling text k d p) e).0
-  fault_left shape.Member e h = one_fault left (λ s. member_ruling text k d s p) e
-  fault_left shape.Call e h = (two_fault left right (λ s t. call_ruling text k d s p t) e).0
-  fault_left shape.Instances e h = one_fault left (λ s. instances_ruling text k d s p) e
+  fault_left (shape.New p) e h = absurdly (cc)
+  fault_left (shape.Add p) e h = (two_fault left right (add_ruling text k d p) e).0
+  fault_left (shape.Rem p) e h = (two_fault left right (rem_ruling text k d p) e).0
+  fault_left (shape.Member p) e h = one_fault left (λ s. member_ruling text k d s p) e
+  fault_left (shape.Call p) e h = (two_fault left right (λ s t. call_ruling text k d s p t) e).0
+  fault_left (shape.Instances p) e h = one_fault left (λ s. instances_ruling text k d s p) e
   fault_left shape.From e h = one_fault left (from_ruling d) e
   fault_left shape.To e h = one_fault left (to_ruling d) e
   fault_left shape.Equal e h = (two_fault left right compare_ruling e).0
-  fault_left shape.SetVariable e h = absurdly (cc)
-  fault_left shape.SetMember e h = (two_fault left right (λ s t. set_member_ruling text k d s p t) e).0
-  fault_left shape.Action e h = one_fault left (λ s. Done step.Drop) e
+  fault_left (shape.SetVariable p) e h = absurdly (cc)
+  fault_left (shape.SetMember p) e h = (two_fault left right (λ s t. set_member_ruling text k d s p t) e).0
+  fault_left shape.Action e h = one_fault left (λ s. ordered step.Drop) e
   fault_left shape.Branch e h = one_fault left branch_ruling e
   fault_left shape.Return e h = one_fault left (return_ruling d m) e
 
-  fault_right : (x : Shape) → of_shape text k d x m p left right ≡ Fault → has_right x ≡ true → (s : Ty) × (right ≡ Some s)
-  fault_right shape.Variable e h = absurdly (cc)
+  fault_right : (x : Shape) → of_shape text k d x m left right ≡ faulty → has_right x ≡ true → (s : Ty) × (right ≡ Some s)
+  fault_right (shape.Variable p) e h = absurdly (cc)
   fault_right shape.True e h = absurdly (cc)
   fault_right shape.False e h = absurdly (cc)
   fault_right shape.Null e h = absurdly (cc)
   fault_right shape.This e h = absurdly (cc)
-  fault_right shape.New e h = absurdly (cc)
-  fault_right shape.Add e h = (two_fault left right (add_ruling text k d p) e).1
-  fault_right shape.Rem e h = (two_fault left right (rem_ruling text k d p) e).1
-  fault_right shape.Member e h = absurdly (cc)
-  fault_right shape.Call e h = (two_fault left right (λ s t. call_ruling text k d s p t) e).1
-  fault_right shape.Instances e h = absurdly (cc)
+  fault_right (shape.New p) e h = absurdly (cc)
+  fault_right (shape.Add p) e h = (two_fault left right (add_ruling text k d p) e).1
+  fault_right (shape.Rem p) e h = (two_fault left right (rem_ruling text k d p) e).1
+  fault_right (shape.Member p) e h = absurdly (cc)
+  fault_right (shape.Call p) e h = (two_fault left right (λ s t. call_ruling text k d s p t) e).1
+  fault_right (shape.Instances p) e h = absurdly (cc)
   fault_right shape.From e h = absurdly (cc)
   fault_right shape.To e h = absurdly (cc)
   fault_right shape.Equal e h = (two_fault left right compare_ruling e).1
-  fault_right shape.SetVariable e h = one_fault right (set_variable_ruling text k d m p) e
-  fault_right shape.SetMember e h = (two_fault left right (λ s t. set_member_ruling text k d s p t) e).1
+  fault_right (shape.SetVariable p) e h = one_fault right (set_variable_ruling text k d m p) e
+  fault_right (shape.SetMember p) e h = (two_fault left right (λ s t. set_member_ruling text k d s p t) e).1
   fault_right shape.Action e h = absurdly (cc)
   fault_right shape.Branch e h = absurdly (cc)
   fault_right shape.Return e h = absurdly (cc)
 
 module _ (text : List ℕ) (k : Contents) (d : Declared) (lines : AreLines d.ancestry) where
   -- a part with a type stands before its node, and has the type
-  ready : (i j : ℕ) (s : Ty) → i < length k.nodes → types_to text k d i j ≡ Some s → (j < i) × HasType text k d j s
-  ready i j s h e =
+  ready : (i : ℕ) (part : Option ℕ) (s : Ty) → i < length k.nodes → part_type (types_to text k d i) part ≡ Some s → (j : ℕ) × Before i part j × HasType text k d j s
+  ready i None s h e = absurdly (cc)
+  ready i (Some j) s h e =
       elim (cases_lt j i) [
-        | inl c ↦ (c, sound text k d lines j s (omega arith) (sym (settled text k d i j c) ∙ e))
+        | inl c ↦ (j, record { is = refl; before = c }, sound text k d lines j s (omega arith) (sym (settled text k d i j c) ∙ e))
         | inr c ↦ let n = none_later text k d i j c in absurdly (cc)
       ]
 
   ordered_by : {z : Step} (i : ℕ) (v : Node) → i < length k.nodes → slice_get k.nodes i ≡ Some v → (x : Shape) → v.shape ≡ x
-      → of_shape text k d x v.method v.name (types_to text k d i v.left) (types_to text k d i v.right) ≡ Done z → InOrder text k d i
+      → of_shape text k d x v.method (part_type (types_to text k d i) v.left) (part_type (types_to text k d i) v.right) ≡ ordered z → InOrder text k d i
   unfolding settles
-  ordered_by i v h there shape.Variable e q = not_done (variable_ruling text k d v.method v.name) (variable_settles text k d v.method v.name) q
+  ordered_by i v h there (shape.Variable p) e q = not_done (variable_ruling text k d v.method p) (variable_settles text k d v.method p) q
   ordered_by i v h there shape.True e q = absurdly (cc)
   ordered_by i v h there shape.False e q = absurdly (cc)
   ordered_by i v h there shape.Null e q = absurdly (cc)
   ordered_by i v h there shape.This e q = not_done (this_ruling k v.method) (this_settles k v.method) q
-  ordered_by i v h there shape.New e q = not_done (new_ruling text k v.name) (new_settles text k v.name) q
-  ordered_by i v h there shape.Add e q = two_done (types_to text k d i v.left) (types_to text k d i v.right) (add_ruling text k d v.name) (λ s t. add_settles text k d v.name s t) q
-  ordered_by i v h there shape.Rem e q = two_done (types_to text k d i v.left) (types_to text k d i v.right) (rem_ruling text k d v.name) (λ s t. rem_settles text k d v.name s t) q
-  ordered_by i v h there shape.Member e q = one_done (types_to text k d i v.left) (λ s. member_ruling text k d s v.name) (λ s. member_settles text k d s v.name) q
-  ordered_by i v h there shape.Call e q = two_done (types_to text k d i v.left) (types_to text k d i v.right) (λ s t. call_ruling text k d s v.name t) (λ s t. call_settles text k d s v.name t) q
-  ordered_by i v h there shape.Instances e q = one_done (types_to text k d i v.left) (λ s. instances_ruling text k d s v.name) (λ s. instances_settles text k d s v.name) q
-  ordered_by i v h there shape.From e q = one_done (types_to text k d i v.left) (from_ruling d) (from_settles d) q
-  ordered_by i v h there shape.To e q = one_done (types_to text k d i v.left) (to_ruling d) (to_settles d) q
-  ordered_by i v h there shape.Equal e q = two_done (types_to text k d i v.left) (types_to text k d i v.right) compare_ruling compare_settles q
-  ordered_by i v h there shape.SetVariable e q = one_done (types_to text k d i v.right) (set_variable_ruling text k d v.method v.name) (set_variable_settles text k d v.method v.name) q
-  ordered_by i v h there shape.SetMember e q = two_done (types_to text k d i v.left) (types_to text k d i v.right) (λ s t. set_member_ruling text k d s v.name t) (λ s t. set_member_settles text k d s v.name t) q
+  ordered_by i v h there (shape.New p) e q = not_done (new_ruling text k p) (new_settles text k p) q
+  ordered_by i v h there (shape.Add p) e q = two_done (part_type (types_to text k d i) v.left) (part_type (types_to text k d i) v.right) (add_ruling text k d p) (λ s t. add_settles text k d p s t) q
+  ordered_by i v h there (shape.Rem p) e q = two_done (part_type (types_to text k d i) v.left) (part_type (types_to text k d i) v.right) (rem_ruling text k d p) (λ s t. rem_settles text k d p s t) q
+  ordered_by i v h there (shape.Member p) e q = one_done (part_type (types_to text k d i) v.left) (λ s. member_ruling text k d s p) (λ s. member_settles text k d s p) q
+  ordered_by i v h there (shape.Call p) e q = two_done (part_type (types_to text k d i) v.left) (part_type (types_to text k d i) v.right) (λ s t. call_ruling text k d s p t) (λ s t. call_settles text k d s p t) q
+  ordered_by i v h there (shape.Instances p) e q = one_done (part_type (types_to text k d i) v.left) (λ s. instances_ruling text k d s p) (λ s. instances_settles text k d s p) q
+  ordered_by i v h there shape.From e q = one_done (part_type (types_to text k d i) v.left) (from_ruling d) (from_settles d) q
+  ordered_by i v h there shape.To e q = one_done (part_type (types_to text k d i) v.left) (to_ruling d) (to_settles d) q
+  ordered_by i v h there shape.Equal e q = two_done (part_type (types_to text k d i) v.left) (part_type (types_to text k d i) v.right) compare_ruling compare_settles q
+  ordered_by i v h there (shape.SetVariable p) e q = one_done (part_type (types_to text k d i) v.right) (set_variable_ruling text k d v.method p) (set_variable_settles text k d v.method p) q
+  ordered_by i v h there (shape.SetMember p) e q = two_done (part_type (types_to text k d i) v.left) (part_type (types_to text k d i) v.right) (λ s t. set_member_ruling text k d s p t) (λ s t. set_member_settles text k d s p t) q
   ordered_by i v h there shape.Action e q =
-      let a = action_done (types_to text k d i v.left) q in
+      let a = action_done (part_type (types_to text k d i) v.left) q in
       let b = ready i v.left a.0 h a.1 in
-      action_ordered (record { there = there; shaped = e }) b.0 b.1
+      action_ordered (record { there = there; shaped = e }) b.1 b.2
   ordered_by i v h there shape.Branch e q =
-      let a = branch_done (types_to text k d i v.left) q in
+      let a = branch_done (part_type (types_to text k d i) v.left) q in
       let b = ready i v.left a.0 h a.1 in
-      branch_ordered (record { there = there; shaped = e }) b.0 b.1 a.2
+      branch_ordered (record { there = there; shaped = e }) b.1 b.2 a.2
   ordered_by i v h there shape.Return e q =
-      let a = return_done d v.method (types_to text k d i v.left) q in
+      let a = return_done d v.method (part_type (types_to text k d i) v.left) q in
       let b = ready i v.left a.0 h a.1 in
-      return_ordered (record { there = there; shaped = e }) b.0 b.1 a.2.1 ((fits_decides lines a.0 a.2.0.result).0 a.2.2)
+      return_ordered (record { there = there; shaped = e }) b.1 b.2 a.2.1 ((fits_decides lines a.0 a.2.0.result).0 a.2.2)
 
   -- what is judged of node i, and what it shows
 
   pub judged_node : (i : ℕ) (v : Node) → slice_get k.nodes i ≡ Some v
-      → ruling_at text k d i ≡ of_shape text k d v.shape v.method v.name (types_to text k d i v.left) (types_to text k d i v.right)
+      → ruling_at text k d i ≡ of_shape text k d v.shape v.method (part_type (types_to text k d i) v.left) (part_type (types_to text k d i) v.right)
   judged_node i v there = judged text k d (record { there = there; shaped = refl })
 
-  pub typed_has : (i : ℕ) (t : Ty) (s : Step) → i < length k.nodes → ruling_at text k d i ≡ Typed t s → HasType text k d i t
+  pub typed_has : (i : ℕ) (t : Ty) (s : Step) → i < length k.nodes → ruling_at text k d i ≡ ruled t s → HasType text k d i t
   unfolding type_at
   typed_has i t s h e = sound text k d lines i t h (ap type_of e)
 
-  pub done_ordered : (i : ℕ) (v : Node) (s : Step) → i < length k.nodes → slice_get k.nodes i ≡ Some v → ruling_at text k d i ≡ Done s → InOrder text k d i
+  pub done_ordered : (i : ℕ) (v : Node) (s : Step) → i < length k.nodes → slice_get k.nodes i ≡ Some v → ruling_at text k d i ≡ ordered s → InOrder text k d i
   done_ordered i v s h there e = ordered_by i v h there v.shape refl (sym (judged_node i v there) ∙ e)
 
-  fault_untyped : (i : ℕ) (t : Ty) → ruling_at text k d i ≡ Fault → HasType text k d i t → ⊥
+  fault_untyped : (i : ℕ) (t : Ty) → ruling_at text k d i ≡ faulty → HasType text k d i t → ⊥
   unfolding type_at
   fault_untyped i t e h =
       let a = complete text k d lines h in
       let b = ap type_of e in
       absurdly (cc)
 
-  fault_unordered : (i : ℕ) → ruling_at text k d i ≡ Fault → InOrder text k d i → ⊥
+  fault_unordered : (i : ℕ) → ruling_at text k d i ≡ faulty → InOrder text k d i → ⊥
   fault_unordered i e h =
       let a = complete_ordered text k d lines h in
       let b = a.1 in
       absurdly (cc)
 
   -- a ruling of fault is a fault
-  pub at_fault : (i : ℕ) (v : Node) → i < length k.nodes → slice_get k.nodes i ≡ Some v → ruling_at text k d i ≡ Fault → AtFault text k d i v
+  pub at_fault : (i : ℕ) (v : Node) → i < length k.nodes → slice_get k.nodes i ≡ Some v → ruling_at text k d i ≡ faulty → AtFault text k d i v
   at_fault i v h there e =
       let j = sym (judged_node i v there) ∙ e in
       record {
         there = there;
         left = λ b.
-            let a = fault_left text k d v.method v.name (types_to text k d i v.left) (types_to text k d i v.right) v.shape j b in
+            let a = fault_left text k d v.method (part_type (types_to text k d i) v.left) (part_type (types_to text k d i) v.right) v.shape j b in
             let r = ready i v.left a.0 h a.1 in
-            record { before = r.0; type = a.0; typed = r.1 };
+            record { node = r.0; stands = r.1; type = a.0; typed = r.2 };
         right = λ b.
-            let a = fault_right text k d v.method v.name (types_to text k d i v.left) (types_to text k d i v.right) v.shape j b in
+            let a = fault_right text k d v.method (part_type (types_to text k d i) v.left) (part_type (types_to text k d i) v.right) v.shape j b in
             let r = ready i v.right a.0 h a.1 in
-            record { before = r.0; type = a.0; typed = r.1 };
+            record { node = r.0; stands = r.1; type = a.0; typed = r.2 };
         untyped = λ t x. fault_untyped i t e x;
         unordered = λ x. fault_unordered i e x;
       }
@@ -389,30 +389,30 @@ module _ (text : List ℕ) (k : Contents) (d : Declared) (lines : AreLines d.anc
         | inr h ↦ let n = slice_get_past k.nodes i h in absurdly (cc)
       ]
 
-  part_there : (i j : ℕ) → Ready text k d i j → types_to text k d i j ≡ None → ⊥
-  part_there i j r e = let a = part_typed text k d r.before (complete text k d lines r.typed) in absurdly (cc)
+  part_there : (i : ℕ) (part : Option ℕ) → Ready text k d i part → part_type (types_to text k d i) part ≡ None → ⊥
+  part_there i part r e = let a = part_typed text k d r.stands (complete text k d lines r.typed) in absurdly (cc)
 
   -- a fault is ruled one
-  fault_by : (i : ℕ) (v : Node) → AtFault text k d i v → (r : Ruling) → ruling_at text k d i ≡ r → r ≡ Fault
-  fault_by i v a (Typed t s) e = absurd (a.untyped t (typed_has i t s (there_below i v a.there) e))
-  fault_by i v a (Done s) e = absurd (a.unordered (done_ordered i v s (there_below i v a.there) a.there e))
-  fault_by i v a Waits e =
-      elim (waits_for text k d v.method v.name (types_to text k d i v.left) (types_to text k d i v.right) v.shape (sym (judged_node i v a.there) ∙ e)) [
+  fault_by : (i : ℕ) (v : Node) → AtFault text k d i v → (r : Ruled) → ruling_at text k d i ≡ r → r ≡ faulty
+  fault_by i v a (Some (ruling.Typed t s)) e = absurd (a.untyped t (typed_has i t s (there_below i v a.there) e))
+  fault_by i v a (Some (ruling.Done s)) e = absurd (a.unordered (done_ordered i v s (there_below i v a.there) a.there e))
+  fault_by i v a (Some ruling.Waits) e =
+      elim (waits_for text k d v.method (part_type (types_to text k d i) v.left) (part_type (types_to text k d i) v.right) v.shape (sym (judged_node i v a.there) ∙ e)) [
         | inl w ↦ absurd (part_there i v.left (a.left w.0) w.1)
         | inr w ↦ absurd (part_there i v.right (a.right w.0) w.1)
       ]
-  fault_by i v a Fault e = refl
+  fault_by i v a None e = refl
 
-  pub fault_ruled : (i : ℕ) (v : Node) → AtFault text k d i v → ruling_at text k d i ≡ Fault
+  pub fault_ruled : (i : ℕ) (v : Node) → AtFault text k d i v → ruling_at text k d i ≡ faulty
   fault_ruled i v a = fault_by i v a (ruling_at text k d i) refl
 
   -- the places
 
-  place_of : (r : Ruling) (q p : ℕ) → fault_place r q ≡ Some p → (r ≡ Fault) × (q ≡ p)
-  place_of (Typed t s) q p e = absurdly (cc)
-  place_of (Done s) q p e = absurdly (cc)
-  place_of Waits q p e = absurdly (cc)
-  place_of Fault q p e = let z : q ≡ p = cc in (refl, z)
+  place_of : (r : Ruled) (q p : ℕ) → fault_place r q ≡ Some p → (r ≡ faulty) × (q ≡ p)
+  place_of (Some (ruling.Typed t s)) q p e = absurdly (cc)
+  place_of (Some (ruling.Done s)) q p e = absurdly (cc)
+  place_of (Some ruling.Waits) q p e = absurdly (cc)
+  place_of None q p e = let z : q ≡ p = cc in (refl, z)
 
   node_is : (i : ℕ) (v : Node) → slice_get k.nodes i ≡ Some v → node_at k i ≡ v
   node_is i v e = ap (λ (o : Option Node). given o plain_node (λ x. x)) e
@@ -428,7 +428,7 @@ module _ (text : List ℕ) (k : Contents) (d : Declared) (lines : AreLines d.anc
   pub fault_untyped_at : (i : ℕ) (v : Node) → AtFault text k d i v → untyped text k d i ≡ Some v.place
   unfolding untyped
   fault_untyped_at i v a =
-      ap (λ (r : Ruling). fault_place r (node_at k i).place) (fault_ruled i v a) ∙ ap (λ (x : Node). Some x.place) (node_is i v a.there)
+      ap (λ (r : Ruled). fault_place r (node_at k i).place) (fault_ruled i v a) ∙ ap (λ (x : Node). Some x.place) (node_is i v a.there)
 
   -- the least place of the nodes that are judged to be at fault is the least of those at fault
   pub first_fault : (n : ℕ) (r : Option ℕ) → n ≤ length k.nodes → r ≡ least_below (untyped text k d) n → FirstFault text k d n r

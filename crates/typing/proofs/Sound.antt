@@ -16,15 +16,13 @@ use Rattle.outline.specs.Contents.{Contents}
 use Rattle.declarations.specs.declared.declarations.Ends.{Ends}
 use Rattle.declarations.specs.declared.declarations.Signature.{Signature}
 use Rattle.declarations.specs.Resolved.{Declared}
-use Rattle.declarations.specs.Rows.{given}
+use Rattle.tables.specs.Items.{given}
 use Rattle.typing.specs.declared.step.Step.{Step}
 use Rattle.typing.specs.declared.step.Step.TheVariants as step
-use Rattle.typing.specs.declared.step.Ruling.{Ruling}
-use Rattle.typing.specs.declared.step.Ruling.TheVariants.{Done, Waits, Fault}
-use Rattle.typing.specs.HasType.{Is, EndsOf, Relates, Comparable, as_null, as_row, HasType, true_typed, false_typed, null_typed, this_typed, variable_typed, new_typed, partners_typed, field_typed, instances_typed, from_typed, to_typed, equal_typed, set_variable_typed, set_field_typed, add_typed, rem_typed, call_typed}
+use Rattle.typing.specs.HasType.{Is, Before, EndsOf, Relates, Comparable, as_null, as_row, HasType, true_typed, false_typed, null_typed, this_typed, variable_typed, new_typed, partners_typed, field_typed, instances_typed, from_typed, to_typed, equal_typed, set_variable_typed, set_field_typed, add_typed, rem_typed, call_typed}
 use Rattle.typing.specs.Lookup.{row_of_kind, as_relationship, relationship_of, relationship_named}
-use Rattle.typing.specs.Typing.{type_of_row, comparable, is_boolean, branch_ruling, return_ruling, pair_named, field_ruling, partners_ruling, set_field_ruling, of_shape}
-use Rattle.typing.specs.Passing.{plain_node, type_of, types_to, type_at}
+use Rattle.typing.specs.Typing.{Ruled, ordered, waiting, faulty, type_of_row, comparable, is_boolean, branch_ruling, return_ruling, pair_named, field_ruling, partners_ruling, set_field_ruling, of_shape}
+use Rattle.typing.specs.Passing.{plain_node, type_of, part_type, types_to, type_at}
 use Rattle.typing.proofs.Complete.{judged, settled}
 use Rattle.typing.proofs.Judging.{none_later}
 use Rattle.typing.proofs.Upwards.{field_up, method_up}
@@ -37,33 +35,33 @@ same p = cc
 
 -- a type that comes out shows what was found on the way
 
-pub got : {X : Type 0} (o : Option X) (y : Ruling) (f : X → Ruling) (t : Ty) → type_of y ≡ None → type_of (given o y f) ≡ Some t → (x : X) × (o ≡ Some x) × (type_of (f x) ≡ Some t)
+pub got : {X : Type 0} (o : Option X) (y : Ruled) (f : X → Ruled) (t : Ty) → type_of y ≡ None → type_of (given o y f) ≡ Some t → (x : X) × (o ≡ Some x) × (type_of (f x) ≡ Some t)
 got None y f t n e = clash (sym n ∙ e)
 got (Some x) y f t n e = (x, refl, e)
 
-pub passed : (b : Bool) (y : Ruling) (t : Ty) → type_of (cond b y Fault) ≡ Some t → (b ≡ true) × (type_of y ≡ Some t)
+pub passed : (b : Bool) (y : Ruled) (t : Ty) → type_of (cond b y faulty) ≡ Some t → (b ≡ true) × (type_of y ≡ Some t)
 passed true y t e = (refl, e)
 passed false y t e = clash e
 
 -- a statement has no type
 
-never_test : {C : Type 0} {t : Ty} (b : Bool) (s : Step) → type_of (cond b (Done s) Fault) ≡ Some t → C
+never_test : {C : Type 0} {t : Ty} (b : Bool) (s : Step) → type_of (cond b (ordered s) faulty) ≡ Some t → C
 never_test true s q = clash q
 never_test false s q = clash q
 
-never_action : {C : Type 0} {t : Ty} (o : Option Ty) → type_of (given o Waits (λ s. Done step.Drop)) ≡ Some t → C
+never_action : {C : Type 0} {t : Ty} (o : Option Ty) → type_of (given o waiting (λ s. ordered step.Drop)) ≡ Some t → C
 never_action None q = clash q
 never_action (Some s) q = clash q
 
-never_branch : {C : Type 0} {t : Ty} (o : Option Ty) → type_of (given o Waits branch_ruling) ≡ Some t → C
+never_branch : {C : Type 0} {t : Ty} (o : Option Ty) → type_of (given o waiting branch_ruling) ≡ Some t → C
 never_branch None q = clash q
 never_branch (Some s) q = never_test (is_boolean s.kind) step.Branch q
 
-never_result : {C : Type 0} {t : Ty} (d : Declared) (s : Ty) (o : Option Signature) → type_of (given o Fault (λ g. cond (fits_to d.ancestry s g.result) (Done step.Return) Fault)) ≡ Some t → C
+never_result : {C : Type 0} {t : Ty} (d : Declared) (s : Ty) (o : Option Signature) → type_of (given o faulty (λ g. cond (fits_to d.ancestry s g.result) (ordered step.Return) faulty)) ≡ Some t → C
 never_result d s None q = clash q
 never_result d s (Some g) q = never_test (fits_to d.ancestry s g.result) step.Return q
 
-never_return : {C : Type 0} {t : Ty} (d : Declared) (m : ℕ) (o : Option Ty) → type_of (given o Waits (return_ruling d m)) ≡ Some t → C
+never_return : {C : Type 0} {t : Ty} (d : Declared) (m : ℕ) (o : Option Ty) → type_of (given o waiting (return_ruling d m)) ≡ Some t → C
 never_return d m None q = clash q
 never_return d m (Some s) q = never_result d s (slice_get d.methods m) q
 
@@ -126,151 +124,157 @@ module _ (text : List ℕ) (k : Contents) (d : Declared) (lines : AreLines d.anc
   retype h e = rw (same e) at h
 
   -- a part stands before its node and has its type
-  record Part (i j : ℕ) (s : Ty) : Type 0 where
-    before : j < i
-    typed : HasType text k d j s
+  record Part (i : ℕ) (part : Option ℕ) (s : Ty) : Type 0 where
+    node : ℕ
+    stands : Before i part node
+    typed : HasType text k d node s
 
   -- what the parts of node i are known to have
   record Parts (i : ℕ) : Type 0 where
-    part : (j : ℕ) (s : Ty) → types_to text k d i j ≡ Some s → Part i j s
+    part : (o : Option ℕ) (s : Ty) → part_type (types_to text k d i) o ≡ Some s → Part i o s
 
-  sound_member : {i : ℕ} {v : Node} {s t : Ty} → Is k i shape.Member v → Part i v.left s → (o : Option ℕ) → relationship_named text k v.name ≡ o
-      → type_of (given o (field_ruling text k d s v.name) (partners_ruling d s)) ≡ Some t → HasType text k d i t
-  sound_member {v = v} {s = s} {t = t} is part None e q =
-      let a = got _ Fault _ t refl q in
-      let b = got _ Fault _ t refl a.2 in
-      field_typed is part.before part.typed e (field_up text k d lines v.name s a.0 a.1) (b.1 ∙ b.2)
-  sound_member {v = v} {s = s} {t = t} is part (Some r) e q =
-      let a = got _ Fault _ t refl q in
+  sound_member : {i p : ℕ} {v : Node} {s t : Ty} → Is k i (shape.Member p) v → Part i v.left s → (o : Option ℕ) → relationship_named text k p ≡ o
+      → type_of (given o (field_ruling text k d s p) (partners_ruling d s)) ≡ Some t → HasType text k d i t
+  sound_member {p = p} {s = s} {t = t} is part None e q =
+      let a = got _ faulty _ t refl q in
+      let b = got _ faulty _ t refl a.2 in
+      field_typed is part.stands part.typed e (field_up text k d lines p s a.0 a.1) (b.1 ∙ b.2)
+  sound_member {p = p} {s = s} {t = t} is part (Some r) e q =
+      let a = got _ faulty _ t refl q in
       let b = passed _ _ t a.2 in
-      retype (partners_typed is part.before part.typed (record { named = e; ends = a.1 }) (fits_from s _ b.0)) b.1
+      retype (partners_typed is part.stands part.typed (record { named = e; ends = a.1 }) (fits_from s _ b.0)) b.1
 
-  sound_set_member : {i : ℕ} {v : Node} {s u t : Ty} → Is k i shape.SetMember v → Part i v.left s → Part i v.right u → (o : Option ℕ)
-      → relationship_named text k v.name ≡ o → type_of (given o (set_field_ruling text k d s v.name u) (λ r. Fault)) ≡ Some t → HasType text k d i t
-  sound_set_member {v = v} {s = s} {u = u} {t = t} is left right None e q =
-      let a = got _ Fault _ t refl q in
-      let b = got _ Fault _ t refl a.2 in
+  sound_set_member : {i p : ℕ} {v : Node} {s u t : Ty} → Is k i (shape.SetMember p) v → Part i v.left s → Part i v.right u → (o : Option ℕ)
+      → relationship_named text k p ≡ o → type_of (given o (set_field_ruling text k d s p u) (λ r. faulty)) ≡ Some t → HasType text k d i t
+  sound_set_member {p = p} {s = s} {u = u} {t = t} is left right None e q =
+      let a = got _ faulty _ t refl q in
+      let b = got _ faulty _ t refl a.2 in
       let c = passed _ _ t b.2 in
       retype
-      (set_field_typed is left.before left.typed right.before right.typed e (field_up text k d lines v.name s a.0 a.1) b.1 (fits_from u b.0 c.0))
+      (set_field_typed is left.stands left.typed right.stands right.typed e (field_up text k d lines p s a.0 a.1) b.1 (fits_from u b.0 c.0))
       c.1
   sound_set_member is left right (Some r) e q = clash q
 
   by_shape : (i : ℕ) (v : Node) (t : Ty) → Parts i → slice_get k.nodes i ≡ Some v → (x : Shape) → v.shape ≡ x
-      → type_of (of_shape text k d x v.method v.name (types_to text k d i v.left) (types_to text k d i v.right)) ≡ Some t → HasType text k d i t
-  by_shape i v t parts there shape.Variable e q =
-      let a = got _ Fault _ t refl q in
-      let b = got _ Fault _ t refl a.2 in
+      → type_of (of_shape text k d x v.method (part_type (types_to text k d i) v.left) (part_type (types_to text k d i) v.right)) ≡ Some t → HasType text k d i t
+  by_shape i v t parts there (shape.Variable p) e q =
+      let a = got _ faulty _ t refl q in
+      let b = got _ faulty _ t refl a.2 in
       variable_typed (record { there = there; shaped = e }) a.1 (b.1 ∙ b.2)
   by_shape i v t parts there shape.True e q = retype (true_typed (record { there = there; shaped = e })) q
   by_shape i v t parts there shape.False e q = retype (false_typed (record { there = there; shaped = e })) q
   by_shape i v t parts there shape.Null e q = retype (null_typed (record { there = there; shaped = e })) q
   by_shape i v t parts there shape.This e q =
-      let a = got _ Fault _ t refl q in
+      let a = got _ faulty _ t refl q in
       retype (this_typed (record { there = there; shaped = e }) a.1) a.2
-  by_shape i v t parts there shape.New e q =
-      let a = got _ Fault _ t refl q in
+  by_shape i v t parts there (shape.New p) e q =
+      let a = got _ faulty _ t refl q in
       retype (new_typed (record { there = there; shaped = e }) a.1) a.2
-  by_shape i v t parts there shape.Add e q =
-      let a = got _ Waits _ t refl q in
-      let b = got _ Waits _ t refl a.2 in
-      let c = got _ Fault _ t refl b.2 in
+  by_shape i v t parts there (shape.Add p) e q =
+      let a = got _ waiting _ t refl q in
+      let b = got _ waiting _ t refl a.2 in
+      let c = got _ faulty _ t refl b.2 in
       let l = parts.part v.left a.0 a.1 in
       let r = parts.part v.right b.0 b.1 in
-      let p = paired text k d v.name a.0 b.0 c.0 c.1 in
+      let f = paired text k d p a.0 b.0 c.0 c.1 in
       retype
-      (add_typed (record { there = there; shaped = e }) l.before l.typed r.before r.typed p.relates (fits_from a.0 _ p.first) (fits_from b.0 _ p.second))
+      (add_typed (record { there = there; shaped = e }) l.stands l.typed r.stands r.typed f.relates (fits_from a.0 _ f.first) (fits_from b.0 _ f.second))
       c.2
-  by_shape i v t parts there shape.Rem e q =
-      let a = got _ Waits _ t refl q in
-      let b = got _ Waits _ t refl a.2 in
-      let c = got _ Fault _ t refl b.2 in
+  by_shape i v t parts there (shape.Rem p) e q =
+      let a = got _ waiting _ t refl q in
+      let b = got _ waiting _ t refl a.2 in
+      let c = got _ faulty _ t refl b.2 in
       let l = parts.part v.left a.0 a.1 in
       let r = parts.part v.right b.0 b.1 in
-      let p = paired text k d v.name a.0 b.0 c.0 c.1 in
+      let f = paired text k d p a.0 b.0 c.0 c.1 in
       retype
-      (rem_typed (record { there = there; shaped = e }) l.before l.typed r.before r.typed p.relates (fits_from a.0 _ p.first) (fits_from b.0 _ p.second))
+      (rem_typed (record { there = there; shaped = e }) l.stands l.typed r.stands r.typed f.relates (fits_from a.0 _ f.first) (fits_from b.0 _ f.second))
       c.2
-  by_shape i v t parts there shape.Member e q =
-      let a = got _ Waits _ t refl q in
-      sound_member (record { there = there; shaped = e }) (parts.part v.left a.0 a.1) (relationship_named text k v.name) refl a.2
-  by_shape i v t parts there shape.Call e q =
-      let a = got _ Waits _ t refl q in
-      let b = got _ Waits _ t refl a.2 in
-      let c = got _ Fault _ t refl b.2 in
-      let g = got _ Fault _ t refl c.2 in
+  by_shape i v t parts there (shape.Member p) e q =
+      let a = got _ waiting _ t refl q in
+      sound_member (record { there = there; shaped = e }) (parts.part v.left a.0 a.1) (relationship_named text k p) refl a.2
+  by_shape i v t parts there (shape.Call p) e q =
+      let a = got _ waiting _ t refl q in
+      let b = got _ waiting _ t refl a.2 in
+      let c = got _ faulty _ t refl b.2 in
+      let g = got _ faulty _ t refl c.2 in
       let f = passed _ _ t g.2 in
       let l = parts.part v.left a.0 a.1 in
       let r = parts.part v.right b.0 b.1 in
       retype
-      (call_typed (record { there = there; shaped = e }) l.before l.typed r.before r.typed (method_up text k d lines v.name a.0 c.0 c.1) g.1 (fits_from b.0 _ f.0))
+      (call_typed (record { there = there; shaped = e }) l.stands l.typed r.stands r.typed (method_up text k d lines p a.0 c.0 c.1) g.1 (fits_from b.0 _ f.0))
       f.1
-  by_shape i v t parts there shape.Instances e q =
-      let a = got _ Waits _ t refl q in
-      let b = got _ Fault _ t refl a.2 in
-      let c = got _ Fault _ t refl b.2 in
+  by_shape i v t parts there (shape.Instances p) e q =
+      let a = got _ waiting _ t refl q in
+      let b = got _ faulty _ t refl a.2 in
+      let c = got _ faulty _ t refl b.2 in
       let f = passed _ _ t c.2 in
       let l = parts.part v.left a.0 a.1 in
       retype
-      (instances_typed (record { there = there; shaped = e }) l.before l.typed (record { named = b.1; ends = c.1 }) (fits_from a.0 _ f.0))
+      (instances_typed (record { there = there; shaped = e }) l.stands l.typed (record { named = b.1; ends = c.1 }) (fits_from a.0 _ f.0))
       f.1
   by_shape i v t parts there shape.From e q =
-      let a = got _ Waits _ t refl q in
-      let b = got _ Fault _ t refl a.2 in
-      let c = got _ Fault _ t refl b.2 in
+      let a = got _ waiting _ t refl q in
+      let b = got _ faulty _ t refl a.2 in
+      let c = got _ faulty _ t refl b.2 in
       let l = parts.part v.left a.0 a.1 in
-      retype (from_typed (record { there = there; shaped = e }) l.before l.typed (ends_from d a.0 b.0 c.0 b.1 c.1)) c.2
+      retype (from_typed (record { there = there; shaped = e }) l.stands l.typed (ends_from d a.0 b.0 c.0 b.1 c.1)) c.2
   by_shape i v t parts there shape.To e q =
-      let a = got _ Waits _ t refl q in
-      let b = got _ Fault _ t refl a.2 in
-      let c = got _ Fault _ t refl b.2 in
+      let a = got _ waiting _ t refl q in
+      let b = got _ faulty _ t refl a.2 in
+      let c = got _ faulty _ t refl b.2 in
       let l = parts.part v.left a.0 a.1 in
-      retype (to_typed (record { there = there; shaped = e }) l.before l.typed (ends_from d a.0 b.0 c.0 b.1 c.1)) c.2
+      retype (to_typed (record { there = there; shaped = e }) l.stands l.typed (ends_from d a.0 b.0 c.0 b.1 c.1)) c.2
   by_shape i v t parts there shape.Equal e q =
-      let a = got _ Waits _ t refl q in
-      let b = got _ Waits _ t refl a.2 in
+      let a = got _ waiting _ t refl q in
+      let b = got _ waiting _ t refl a.2 in
       let f = passed _ _ t b.2 in
       let g = and_parts _ _ f.0 in
       let l = parts.part v.left a.0 a.1 in
       let r = parts.part v.right b.0 b.1 in
       retype
-      (equal_typed (record { there = there; shaped = e }) l.before l.typed r.before r.typed (comparable_from a.0 g.0) (comparable_from b.0 g.1))
+      (equal_typed (record { there = there; shaped = e }) l.stands l.typed r.stands r.typed (comparable_from a.0 g.0) (comparable_from b.0 g.1))
       f.1
-  by_shape i v t parts there shape.SetVariable e q =
-      let a = got _ Waits _ t refl q in
-      let b = got _ Fault _ t refl a.2 in
-      let c = got _ Fault _ t refl b.2 in
+  by_shape i v t parts there (shape.SetVariable p) e q =
+      let a = got _ waiting _ t refl q in
+      let b = got _ faulty _ t refl a.2 in
+      let c = got _ faulty _ t refl b.2 in
       let f = passed _ _ t c.2 in
       let r = parts.part v.right a.0 a.1 in
-      retype (set_variable_typed (record { there = there; shaped = e }) r.before r.typed b.1 c.1 (fits_from a.0 c.0 f.0)) f.1
-  by_shape i v t parts there shape.SetMember e q =
-      let a = got _ Waits _ t refl q in
-      let b = got _ Waits _ t refl a.2 in
-      sound_set_member (record { there = there; shaped = e }) (parts.part v.left a.0 a.1) (parts.part v.right b.0 b.1) (relationship_named text k v.name) refl b.2
-  by_shape i v t parts there shape.Action e q = never_action (types_to text k d i v.left) q
-  by_shape i v t parts there shape.Branch e q = never_branch (types_to text k d i v.left) q
-  by_shape i v t parts there shape.Return e q = never_return d v.method (types_to text k d i v.left) q
+      retype (set_variable_typed (record { there = there; shaped = e }) r.stands r.typed b.1 c.1 (fits_from a.0 c.0 f.0)) f.1
+  by_shape i v t parts there (shape.SetMember p) e q =
+      let a = got _ waiting _ t refl q in
+      let b = got _ waiting _ t refl a.2 in
+      sound_set_member (record { there = there; shaped = e }) (parts.part v.left a.0 a.1) (parts.part v.right b.0 b.1) (relationship_named text k p) refl b.2
+  by_shape i v t parts there shape.Action e q = never_action (part_type (types_to text k d i) v.left) q
+  by_shape i v t parts there shape.Branch e q = never_branch (part_type (types_to text k d i) v.left) q
+  by_shape i v t parts there shape.Return e q = never_return d v.method (part_type (types_to text k d i) v.left) q
 
   there_at : (i : ℕ) → i < length k.nodes → slice_get k.nodes i ≡ Some (get_or k.nodes i plain_node)
   there_at i h = slice_get-get_or k.nodes i plain_node h
 
   node_judged : (i : ℕ) (t : Ty) → i < length k.nodes → type_at text k d i ≡ Some t
-      → type_of (of_shape text k d (get_or k.nodes i plain_node).shape (get_or k.nodes i plain_node).method (get_or k.nodes i plain_node).name (types_to text k d i (get_or k.nodes i plain_node).left) (types_to text k d i (get_or k.nodes i plain_node).right)) ≡ Some t
+      → type_of (of_shape text k d (get_or k.nodes i plain_node).shape (get_or k.nodes i plain_node).method (part_type (types_to text k d i) (get_or k.nodes i plain_node).left) (part_type (types_to text k d i) (get_or k.nodes i plain_node).right)) ≡ Some t
   unfolding type_at
   node_judged i t h q = sym (ap type_of (judged text k d (record { there = there_at i h; shaped = refl }))) ∙ q
 
   pub sound_to : (n i : ℕ) (t : Ty) → i < n → i < length k.nodes → type_at text k d i ≡ Some t → HasType text k d i t
   sound_to zero i t b h q = absurd (omega arith)
   sound_to (suc n) i t b h q =
-      by_shape i (get_or k.nodes i plain_node) t
-      (record {
-        part = λ j s e.
-            elim (cases_lt j i) [
-              | inl c ↦ record { before = c; typed = sound_to n j s (omega arith) (omega arith) (sym (settled text k d i j c) ∙ e) }
-              | inr c ↦ clash (sym (none_later text k d i j c) ∙ e)
-            ];
-      })
-      (there_at i h) (get_or k.nodes i plain_node).shape refl (node_judged i t h q)
+      by_shape i (get_or k.nodes i plain_node) t (record { part = part (λ j s c e. sound_to n j s (omega arith) (omega arith) e) }) (there_at i h) (get_or k.nodes i plain_node).shape refl (node_judged i t h q)
+    where
+      part : ((j : ℕ) (s : Ty) → j < i → type_at text k d j ≡ Some s → HasType text k d j s) → (o : Option ℕ) (s : Ty) → part_type (types_to text k d i) o ≡ Some s → Part i o s
+      part earlier None s e = clash e
+      part earlier (Some j) s e =
+          elim (cases_lt j i) [
+            | inl c ↦
+                record {
+                  node = j;
+                  stands = record { is = refl; before = c };
+                  typed = earlier j s c (sym (settled text k d i j c) ∙ e);
+                }
+            | inr c ↦ clash (sym (none_later text k d i j c) ∙ e)
+          ]
 
   pub sound : (i : ℕ) (t : Ty) → i < length k.nodes → type_at text k d i ≡ Some t → HasType text k d i t
   sound i t h q = sound_to (suc i) i t (omega arith) h q

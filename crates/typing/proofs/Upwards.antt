@@ -11,9 +11,9 @@ use Rattle.values.specs.declared.types.Kind.TheVariants.{Boolean, Null, Row, Set
 use Rattle.values.specs.declared.types.Ty.{Ty}
 use Rattle.values.specs.Fits.{Ancestry, AreLines}
 use Rattle.outline.specs.Contents.{Contents}
-use Rattle.declarations.specs.Descending.{line_in}
+use Rattle.values.specs.Fits.{line_in}
 use Rattle.declarations.specs.Resolved.{Declared}
-use Rattle.declarations.specs.Rows.{given}
+use Rattle.tables.specs.Items.{given}
 use Rattle.typing.specs.HasType.{Upward}
 use Rattle.typing.specs.Lookup.{row_of_kind, found_there, field_of, field_upward, field_from, method_of_row, method_upward, method_from}
 

@@ -8,11 +8,11 @@ use Rattle.outline.specs.declared.entry.Shape.{Shape}
 use Rattle.outline.specs.declared.entry.Node.{Node}
 use Rattle.outline.specs.Contents.{Contents}
 use Rattle.declarations.specs.Resolved.{Declared}
-use Rattle.typing.specs.declared.step.Ruling.{Ruling}
-use Rattle.typing.specs.declared.step.Ruling.TheVariants.{Typed, Done, Waits, Fault}
+use Rattle.typing.specs.Typing.{Ruled}
+use Rattle.typing.specs.declared.step.Ruling.TheVariants as ruling
 use Rattle.typing.specs.HasType.{Is, InOrder, action_ordered, branch_ordered, return_ordered}
 use Rattle.typing.specs.Faults.{NoFault, is_statement, Placed, WellPlaced, WellTyped, has_type, in_order}
-use Rattle.typing.specs.Passing.{plain_node, types_to, ruling_at}
+use Rattle.typing.specs.Passing.{plain_node, part_type, types_to, ruling_at}
 use Rattle.typing.proofs.Complete.{part_typed, complete}
 use Rattle.typing.proofs.Faulting.{waits_for, judged_node, typed_has, done_ordered, at_fault}
 
@@ -28,22 +28,22 @@ module _ (text : List ℕ) (k : Contents) (d : Declared) (lines : AreLines d.anc
   statement j w (branch_ordered is h p b) e = ap is_statement (shape_is j _ _ w is e)
   statement j w (return_ordered is h p g f) e = ap is_statement (shape_is j _ _ w is e)
 
-  stuck : (i j : ℕ) → Placed k i j → WellTyped text k d j → types_to text k d i j ≡ None → ⊥
-  stuck i j p (has_type h) e =
-      let a = part_typed text k d p.before (complete text k d lines h) in
+  stuck : (i : ℕ) (part : Option ℕ) (p : Placed k i part) → WellTyped text k d p.node → part_type (types_to text k d i) part ≡ None → ⊥
+  stuck i part p (has_type h) e =
+      let a = part_typed text k d p.stands (complete text k d lines h) in
       let z : ◌≡◌ {A = ℕ} 0 1 = cc in
       omega arith
-  stuck i j p (in_order o) e = both_ways _ p.expression (statement j p.entry o p.there)
+  stuck i part p (in_order o) e = both_ways _ p.expression (statement p.node p.entry o p.there)
 
   whole_by : (n i : ℕ) (v : Node) → i < n → i < length k.nodes → slice_get k.nodes i ≡ Some v → WellPlaced k n → NoFault text k d n
-      → ((j : ℕ) → j < i → WellTyped text k d j) → (r : Ruling) → ruling_at text k d i ≡ r → WellTyped text k d i
-  whole_by n i v b h there w none before (Typed t s) e = has_type (typed_has text k d lines i t s h e)
-  whole_by n i v b h there w none before (Done s) e = in_order (done_ordered text k d lines i v s h there e)
-  whole_by n i v b h there w none before Fault e = absurd (none.none i v b (at_fault text k d lines i v h there e))
-  whole_by n i v b h there w none before Waits e =
-      elim (waits_for text k d v.method v.name (types_to text k d i v.left) (types_to text k d i v.right) v.shape (sym (judged_node text k d lines i v there) ∙ e)) [
-        | inl x ↦ let p = w.left i v b there x.0 in absurd (stuck i v.left p (before v.left p.before) x.1)
-        | inr x ↦ let p = w.right i v b there x.0 in absurd (stuck i v.right p (before v.right p.before) x.1)
+      → ((j : ℕ) → j < i → WellTyped text k d j) → (r : Ruled) → ruling_at text k d i ≡ r → WellTyped text k d i
+  whole_by n i v b h there w none before (Some (ruling.Typed t s)) e = has_type (typed_has text k d lines i t s h e)
+  whole_by n i v b h there w none before (Some (ruling.Done s)) e = in_order (done_ordered text k d lines i v s h there e)
+  whole_by n i v b h there w none before None e = absurd (none.none i v b (at_fault text k d lines i v h there e))
+  whole_by n i v b h there w none before (Some ruling.Waits) e =
+      elim (waits_for text k d v.method (part_type (types_to text k d i) v.left) (part_type (types_to text k d i) v.right) v.shape (sym (judged_node text k d lines i v there) ∙ e)) [
+        | inl x ↦ let p = w.left i v b there x.0 in absurd (stuck i v.left p (before p.node p.stands.before) x.1)
+        | inr x ↦ let p = w.right i v b there x.0 in absurd (stuck i v.right p (before p.node p.stands.before) x.1)
       ]
 
   whole_to : (m n i : ℕ) → i < m → n ≤ length k.nodes → WellPlaced k n → NoFault text k d n → i < n → WellTyped text k d i

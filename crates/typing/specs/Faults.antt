@@ -7,57 +7,58 @@ use Rattle.outline.specs.declared.entry.Shape.TheVariants as shape
 use Rattle.outline.specs.declared.entry.Node.{Node}
 use Rattle.outline.specs.Contents.{Contents}
 use Rattle.declarations.specs.Resolved.{Declared}
-use Rattle.typing.specs.HasType.{HasType, InOrder}
+use Rattle.typing.specs.HasType.{Before, HasType, InOrder}
 
 -- a node of the shape has a part on the left
 abbrev pub has_left : Shape → Bool
-has_left shape.Variable = false
+has_left (shape.Variable n) = false
 has_left shape.True = false
 has_left shape.False = false
 has_left shape.Null = false
 has_left shape.This = false
-has_left shape.New = false
-has_left shape.Add = true
-has_left shape.Rem = true
-has_left shape.Member = true
-has_left shape.Call = true
-has_left shape.Instances = true
+has_left (shape.New n) = false
+has_left (shape.Add n) = true
+has_left (shape.Rem n) = true
+has_left (shape.Member n) = true
+has_left (shape.Call n) = true
+has_left (shape.Instances n) = true
 has_left shape.From = true
 has_left shape.To = true
 has_left shape.Equal = true
-has_left shape.SetVariable = false
-has_left shape.SetMember = true
+has_left (shape.SetVariable n) = false
+has_left (shape.SetMember n) = true
 has_left shape.Action = true
 has_left shape.Branch = true
 has_left shape.Return = true
 
 -- a node of the shape has a part on the right
 abbrev pub has_right : Shape → Bool
-has_right shape.Variable = false
+has_right (shape.Variable n) = false
 has_right shape.True = false
 has_right shape.False = false
 has_right shape.Null = false
 has_right shape.This = false
-has_right shape.New = false
-has_right shape.Add = true
-has_right shape.Rem = true
-has_right shape.Member = false
-has_right shape.Call = true
-has_right shape.Instances = false
+has_right (shape.New n) = false
+has_right (shape.Add n) = true
+has_right (shape.Rem n) = true
+has_right (shape.Member n) = false
+has_right (shape.Call n) = true
+has_right (shape.Instances n) = false
 has_right shape.From = false
 has_right shape.To = false
 has_right shape.Equal = true
-has_right shape.SetVariable = true
-has_right shape.SetMember = true
+has_right (shape.SetVariable n) = true
+has_right (shape.SetMember n) = true
 has_right shape.Action = false
 has_right shape.Branch = false
 has_right shape.Return = false
 
--- node j stands before node i, and has a type
-pub record Ready (text : List ℕ) (k : Contents) (d : Declared) (i j : ℕ) : Type 0 where
-  pub before : j < i
+-- the part is there: a node that stands before node i, and has a type
+pub record Ready (text : List ℕ) (k : Contents) (d : Declared) (i : ℕ) (part : Option ℕ) : Type 0 where
+  pub node : ℕ
+  pub stands : Before i part node
   pub type : Ty
-  pub typed : HasType text k d j type
+  pub typed : HasType text k d node type
 
 -- v is node i; its parts have types; it has none itself, and is no statement in order
 pub record AtFault (text : List ℕ) (k : Contents) (d : Declared) (i : ℕ) (v : Node) : Type 0 where
@@ -87,31 +88,32 @@ FirstFault text k d n (Some p) = LeastFault text k d n p
 
 -- a statement or a return, which has no type
 abbrev pub is_statement : Shape → Bool
-is_statement shape.Variable = false
+is_statement (shape.Variable n) = false
 is_statement shape.True = false
 is_statement shape.False = false
 is_statement shape.Null = false
 is_statement shape.This = false
-is_statement shape.New = false
-is_statement shape.Add = false
-is_statement shape.Rem = false
-is_statement shape.Member = false
-is_statement shape.Call = false
-is_statement shape.Instances = false
+is_statement (shape.New n) = false
+is_statement (shape.Add n) = false
+is_statement (shape.Rem n) = false
+is_statement (shape.Member n) = false
+is_statement (shape.Call n) = false
+is_statement (shape.Instances n) = false
 is_statement shape.From = false
 is_statement shape.To = false
 is_statement shape.Equal = false
-is_statement shape.SetVariable = false
-is_statement shape.SetMember = false
+is_statement (shape.SetVariable n) = false
+is_statement (shape.SetMember n) = false
 is_statement shape.Action = true
 is_statement shape.Branch = true
 is_statement shape.Return = true
 
--- node j is an expression, and stands before node i
-pub record Placed (k : Contents) (i j : ℕ) : Type 0 where
-  pub before : j < i
+-- the part is there: an expression that stands before node i
+pub record Placed (k : Contents) (i : ℕ) (part : Option ℕ) : Type 0 where
+  pub node : ℕ
+  pub stands : Before i part node
   pub entry : Node
-  pub there : slice_get k.nodes j ≡ Some entry
+  pub there : slice_get k.nodes node ≡ Some entry
   pub expression : is_statement entry.shape ≡ false
 
 -- the parts of the first n nodes are expressions that stand before them

@@ -16,7 +16,7 @@ use Rattle.outline.specs.declared.entry.Node.{Node}
 use Rattle.outline.specs.Contents.{Contents}
 use Rattle.declarations.specs.declared.declarations.Ends.{Ends}
 use Rattle.declarations.specs.declared.declarations.Signature.{Signature}
-use Rattle.declarations.specs.Descending.{line_in}
+use Rattle.values.specs.Fits.{line_in}
 use Rattle.declarations.specs.Resolved.{Declared}
 use Rattle.typing.specs.Lookup.{class_named, relationship_named, variable_named, field_of, method_of_row}
 use Rattle.typing.specs.Typing.{type_of_row, set_of_row}
@@ -48,45 +48,50 @@ pub data Comparable (t : Ty) : Type 0 where
   as_null : t.kind ≡ Null → Comparable t
   as_row : {l : Lineage} → t.kind ≡ Row l → Comparable t
 
+-- the part is there: node j, which stands before node i
+pub record Before (i : ℕ) (part : Option ℕ) (j : ℕ) : Type 0 where
+  pub is : part ≡ Some j
+  pub before : j < i
+
 -- node i has the type; its parts stand before it
 pub data HasType (text : List ℕ) (k : Contents) (d : Declared) : ℕ → Ty → Type 0 where
   true_typed : {i : ℕ} {v : Node} → Is k i shape.True v → HasType text k d i boolean
   false_typed : {i : ℕ} {v : Node} → Is k i shape.False v → HasType text k d i boolean
   null_typed : {i : ℕ} {v : Node} → Is k i shape.Null v → HasType text k d i null_type
   this_typed : {i : ℕ} {v : Node} {m : Method} → Is k i shape.This v → slice_get k.methods v.method ≡ Some m → HasType text k d i (type_of_row m.owner)
-  variable_typed : {i x : ℕ} {v : Node} {t : Ty} → Is k i shape.Variable v → variable_named text k v.method v.name ≡ Some x → slice_get d.variables x ≡ Some t
+  variable_typed : {i x p : ℕ} {v : Node} {t : Ty} → Is k i (shape.Variable p) v → variable_named text k v.method p ≡ Some x → slice_get d.variables x ≡ Some t
       → HasType text k d i t
-  new_typed : {i n : ℕ} {v : Node} → Is k i shape.New v → class_named text k v.name ≡ Some n → HasType text k d i (row_type Class n)
-  partners_typed : {i r : ℕ} {v : Node} {e : Ends} {s : Ty} → Is k i shape.Member v → v.left < i → HasType text k d v.left s → Relates text k d v.name r e
+  new_typed : {i n p : ℕ} {v : Node} → Is k i (shape.New p) v → class_named text k p ≡ Some n → HasType text k d i (row_type Class n)
+  partners_typed : {i r a p : ℕ} {v : Node} {e : Ends} {s : Ty} → Is k i (shape.Member p) v → Before i v.left a → HasType text k d a s → Relates text k d p r e
       → Fits d.ancestry s (type_of_row e.first) → HasType text k d i (set_of_row e.second)
-  field_typed : {i f : ℕ} {v : Node} {s t : Ty} → Is k i shape.Member v → v.left < i → HasType text k d v.left s → relationship_named text k v.name ≡ None
-      → Upward d.ancestry (λ l. field_of text k l (name_at text v.name)) s f → slice_get d.fields f ≡ Some t → HasType text k d i t
-  instances_typed : {i r : ℕ} {v : Node} {e : Ends} {s : Ty} → Is k i shape.Instances v → v.left < i → HasType text k d v.left s → Relates text k d v.name r e
+  field_typed : {i f a p : ℕ} {v : Node} {s t : Ty} → Is k i (shape.Member p) v → Before i v.left a → HasType text k d a s → relationship_named text k p ≡ None
+      → Upward d.ancestry (λ l. field_of text k l (name_at text p)) s f → slice_get d.fields f ≡ Some t → HasType text k d i t
+  instances_typed : {i r a p : ℕ} {v : Node} {e : Ends} {s : Ty} → Is k i (shape.Instances p) v → Before i v.left a → HasType text k d a s → Relates text k d p r e
       → Fits d.ancestry s (type_of_row e.first) → HasType text k d i (set_type Relationship r)
-  from_typed : {i : ℕ} {v : Node} {e : Ends} {s : Ty} → Is k i shape.From v → v.left < i → HasType text k d v.left s → EndsOf d s e
+  from_typed : {i a : ℕ} {v : Node} {e : Ends} {s : Ty} → Is k i shape.From v → Before i v.left a → HasType text k d a s → EndsOf d s e
       → HasType text k d i (type_of_row e.first)
-  to_typed : {i : ℕ} {v : Node} {e : Ends} {s : Ty} → Is k i shape.To v → v.left < i → HasType text k d v.left s → EndsOf d s e
+  to_typed : {i a : ℕ} {v : Node} {e : Ends} {s : Ty} → Is k i shape.To v → Before i v.left a → HasType text k d a s → EndsOf d s e
       → HasType text k d i (type_of_row e.second)
-  equal_typed : {i : ℕ} {v : Node} {s t : Ty} → Is k i shape.Equal v → v.left < i → HasType text k d v.left s → v.right < i → HasType text k d v.right t
+  equal_typed : {i a b : ℕ} {v : Node} {s t : Ty} → Is k i shape.Equal v → Before i v.left a → HasType text k d a s → Before i v.right b → HasType text k d b t
       → Comparable s → Comparable t → HasType text k d i boolean
-  set_variable_typed : {i x : ℕ} {v : Node} {t u : Ty} → Is k i shape.SetVariable v → v.right < i → HasType text k d v.right t
-      → variable_named text k v.method v.name ≡ Some x → slice_get d.variables x ≡ Some u → Fits d.ancestry t u → HasType text k d i t
-  set_field_typed : {i f : ℕ} {v : Node} {s t u : Ty} → Is k i shape.SetMember v → v.left < i → HasType text k d v.left s → v.right < i → HasType text k d v.right t
-      → relationship_named text k v.name ≡ None → Upward d.ancestry (λ l. field_of text k l (name_at text v.name)) s f → slice_get d.fields f ≡ Some u
+  set_variable_typed : {i x b p : ℕ} {v : Node} {t u : Ty} → Is k i (shape.SetVariable p) v → Before i v.right b → HasType text k d b t
+      → variable_named text k v.method p ≡ Some x → slice_get d.variables x ≡ Some u → Fits d.ancestry t u → HasType text k d i t
+  set_field_typed : {i f a b p : ℕ} {v : Node} {s t u : Ty} → Is k i (shape.SetMember p) v → Before i v.left a → HasType text k d a s → Before i v.right b → HasType text k d b t
+      → relationship_named text k p ≡ None → Upward d.ancestry (λ l. field_of text k l (name_at text p)) s f → slice_get d.fields f ≡ Some u
       → Fits d.ancestry t u → HasType text k d i t
-  add_typed : {i r : ℕ} {v : Node} {e : Ends} {s t : Ty} → Is k i shape.Add v → v.left < i → HasType text k d v.left s → v.right < i → HasType text k d v.right t
-      → Relates text k d v.name r e → Fits d.ancestry s (type_of_row e.first) → Fits d.ancestry t (type_of_row e.second)
+  add_typed : {i r a b p : ℕ} {v : Node} {e : Ends} {s t : Ty} → Is k i (shape.Add p) v → Before i v.left a → HasType text k d a s → Before i v.right b → HasType text k d b t
+      → Relates text k d p r e → Fits d.ancestry s (type_of_row e.first) → Fits d.ancestry t (type_of_row e.second)
       → HasType text k d i (row_type Relationship r)
-  rem_typed : {i r : ℕ} {v : Node} {e : Ends} {s t : Ty} → Is k i shape.Rem v → v.left < i → HasType text k d v.left s → v.right < i → HasType text k d v.right t
-      → Relates text k d v.name r e → Fits d.ancestry s (type_of_row e.first) → Fits d.ancestry t (type_of_row e.second)
+  rem_typed : {i r a b p : ℕ} {v : Node} {e : Ends} {s t : Ty} → Is k i (shape.Rem p) v → Before i v.left a → HasType text k d a s → Before i v.right b → HasType text k d b t
+      → Relates text k d p r e → Fits d.ancestry s (type_of_row e.first) → Fits d.ancestry t (type_of_row e.second)
       → HasType text k d i (row_type Relationship r)
-  call_typed : {i m : ℕ} {v : Node} {g : Signature} {s t : Ty} → Is k i shape.Call v → v.left < i → HasType text k d v.left s → v.right < i → HasType text k d v.right t
-      → Upward d.ancestry (λ l. method_of_row text k l (name_at text v.name)) s m → slice_get d.methods m ≡ Some g → Fits d.ancestry t g.parameter
+  call_typed : {i m a b p : ℕ} {v : Node} {g : Signature} {s t : Ty} → Is k i (shape.Call p) v → Before i v.left a → HasType text k d a s → Before i v.right b → HasType text k d b t
+      → Upward d.ancestry (λ l. method_of_row text k l (name_at text p)) s m → slice_get d.methods m ≡ Some g → Fits d.ancestry t g.parameter
       → HasType text k d i g.result
 
 -- node i is a statement or a return in order
 pub data InOrder (text : List ℕ) (k : Contents) (d : Declared) : ℕ → Type 0 where
-  action_ordered : {i : ℕ} {v : Node} {s : Ty} → Is k i shape.Action v → v.left < i → HasType text k d v.left s → InOrder text k d i
-  branch_ordered : {i : ℕ} {v : Node} {s : Ty} → Is k i shape.Branch v → v.left < i → HasType text k d v.left s → s.kind ≡ Boolean → InOrder text k d i
-  return_ordered : {i : ℕ} {v : Node} {g : Signature} {s : Ty} → Is k i shape.Return v → v.left < i → HasType text k d v.left s
+  action_ordered : {i a : ℕ} {v : Node} {s : Ty} → Is k i shape.Action v → Before i v.left a → HasType text k d a s → InOrder text k d i
+  branch_ordered : {i a : ℕ} {v : Node} {s : Ty} → Is k i shape.Branch v → Before i v.left a → HasType text k d a s → s.kind ≡ Boolean → InOrder text k d i
+  return_ordered : {i a : ℕ} {v : Node} {g : Signature} {s : Ty} → Is k i shape.Return v → Before i v.left a → HasType text k d a s
       → slice_get d.methods v.method ≡ Some g → Fits d.ancestry s g.result → InOrder text k d i

@@ -12,8 +12,10 @@ use Rattle.values.specs.declared.types.Ty.{Ty}
 use Rattle.outline.specs.Contents.{Contents}
 use Rattle.tables.specs.Below.{first_below, count_below}
 use Rattle.declarations.specs.Clashes.{method_alike, variable_alike}
-use Rattle.declarations.specs.Descending.{line_in, same_row}
-use Rattle.declarations.specs.Rows.{row, given, holds, row_named}
+use Rattle.values.specs.Fits.{line_in}
+use Rattle.declarations.specs.Descending.{same_row}
+use Rattle.tables.specs.Items.{given, holds}
+use Rattle.declarations.specs.Rows.{row, row_named}
 use Rattle.declarations.specs.Resolved.{Declared, variable_of}
 
 -- the number, if the line is that of the classes, or of the relationships
@@ -24,6 +26,11 @@ as_class Relationship n = None
 abbrev pub as_relationship : Lineage → ℕ → Option ℕ
 as_relationship Class n = None
 as_relationship Relationship n = Some n
+
+-- the number of a row, if it is of the line
+abbrev pub in_line : Lineage → CellRow → Option ℕ
+in_line Class r = as_class r.lineage r.number
+in_line Relationship r = as_relationship r.lineage r.number
 
 -- the class whose name stands at place p
 abbrev pub class_named : List ℕ → Contents → ℕ → Option ℕ

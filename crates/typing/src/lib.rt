@@ -6,3 +6,4 @@ mod lookup;
 pub mod pass;
 pub mod rules;
 pub mod step;
+pub mod typer;

@@ -1,61 +1,35 @@
-ghost use Rattle.std.specs.Prelude.{◌≡◌};
-ghost use Rattle.descent.specs.Rows.{line_of};
+ghost use Rattle.std.specs.Prelude.{◌≡◌, ℕ, Option, ◌&&◌, ◌==◌, count_by, position, take};
+ghost use Rattle.words.specs.Names.{is_name};
+ghost use Rattle.declarations.specs.Descending.{same_row};
 ghost use Rattle.outline.specs.Contents.{contents};
-ghost use Rattle.values.specs.Fits.{same_lineage};
-ghost use Rattle.values.specs.Lines.{ancestry};
-ghost use Rattle.declarations.specs.Clashes.{method_alike, variable_alike};
-ghost use Rattle.declarations.specs.Descending.{line_in, same_row};
-ghost use Rattle.declarations.specs.Resolved.{declared, variable_of};
-ghost use Rattle.typing.specs.Lookup.{class_named, relationship_named, row_of, relationship_of, variable_named, variable_number, field_is, field_of, found_there, field_upward, method_of_row, method_upward, field_from, method_from};
+ghost use Rattle.declarations.specs.Resolved.{declared};
+ghost use Rattle.descent.specs.Nearest.{Computes, nearest_up};
+ghost use Rattle.values.specs.Fits.{line_in};
+ghost use Rattle.typing.specs.Lookup.{found_there, in_line, class_named, relationship_named, row_of, relationship_of, variable_named, variable_number, field_of, field_upward, method_of_row, method_upward, field_from, method_from};
 
-use declarations::declarations::Declarations;
-use declarations::rows::row_named;
-use descent::line::Line;
-use descent::members::{Members, nearest};
-use outline::contents::Outline;
-use tables::search::{Test, count, first};
-use values::lines::Lines;
+use crate::typer::Typer;
+use declarations::source::Source;
+use descent::members::nearest;
+use outline::entry::{Field, Variable};
 use values::types::{CellRow, Kind, Lineage, Ty};
-use words::names::{name_at, spells};
 
-// The class whose name stands at a place.
-pub(crate) fn class_named(text: &[u8], outline: &Outline, place: usize) -> Option<u8>
-    ensures { result ≡ class_named text.now (contents outline.now) place }
+// The number of a row, if it is of the line.
+fn in_line(lineage: Lineage, row: CellRow) -> Option<u8>
+    ensures { result ≡ in_line lineage row }
 {
-    match row_named(text, outline, place) {
-        None => None,
-        Some(row) => match row.lineage {
-            Lineage::Class => Some(row.number),
-            Lineage::Relationship => None,
-        },
-    }
-}
-
-// The relationship whose name stands at a place.
-pub(crate) fn relationship_named(text: &[u8], outline: &Outline, place: usize) -> Option<u8>
-    ensures { result ≡ relationship_named text.now (contents outline.now) place }
-{
-    match row_named(text, outline, place) {
-        None => None,
-        Some(row) => match row.lineage {
-            Lineage::Class => None,
-            Lineage::Relationship => Some(row.number),
-        },
-    }
+    (row.lineage == lineage).then_some(row.number)
 }
 
 // The row that a type is.
-pub(crate) fn row_of(t: Ty) -> Option<CellRow>
+fn row_of(t: Ty) -> Option<CellRow>
     ensures { result ≡ row_of t }
 {
     match t.kind() {
-        Kind::Boolean => None,
-        Kind::Null => None,
         Kind::Row(lineage) => Some(CellRow {
             lineage,
             number: t.row(),
         }),
-        Kind::Set(_) => None,
+        _ => None,
     }
 }
 
@@ -63,290 +37,145 @@ pub(crate) fn row_of(t: Ty) -> Option<CellRow>
 pub(crate) fn relationship_of(t: Ty) -> Option<u8>
     ensures { result ≡ relationship_of t }
 {
-    match row_of(t) {
-        None => None,
-        Some(row) => match row.lineage {
-            Lineage::Class => None,
-            Lineage::Relationship => Some(row.number),
-        },
-    }
+    in_line(Lineage::Relationship, row_of(t)?)
 }
 
-fn same_lineage(a: Lineage, b: Lineage) -> bool
-    ensures { result ≡ same_lineage a b }
+// The class whose name stands at a place.
+pub(crate) fn class_named(source: &Source<'_>, place: usize) -> Option<u8>
+    ensures { result ≡ class_named source.now.text.now (contents source.now.outline.now) place }
 {
-    match (a, b) {
-        (Lineage::Class, Lineage::Class) => true,
-        (Lineage::Relationship, Lineage::Relationship) => true,
-        _ => false,
-    }
+    in_line(Lineage::Class, source.row_named(place)?)
 }
 
-fn same_row(a: CellRow, b: CellRow) -> bool
-    ensures { result ≡ same_row a b }
+// The relationship whose name stands at a place.
+pub(crate) fn relationship_named(source: &Source<'_>, place: usize) -> Option<u8>
+    ensures { result ≡ relationship_named source.now.text.now (contents source.now.outline.now) place }
 {
-    same_lineage(a.lineage, b.lineage) && a.number == b.number
+    in_line(Lineage::Relationship, source.row_named(place)?)
 }
 
-fn line_in<'a>(lines: &'a Lines, lineage: Lineage) -> &'a Line
-    ensures { line_of result.now ≡ line_in (ancestry lines.now) lineage }
+// Whether the variable is of the method and has the name.
+fn is_variable(source: &Source<'_>, variable: Variable, method: usize, name: &[u8]) -> bool
+    ensures { result ≡ (variable.method == method && is_name source.now.text.now variable.name name.now) }
 {
-    match lineage {
-        Lineage::Class => &lines.classes,
-        Lineage::Relationship => &lines.relationships,
-    }
+    variable.method == method && source.spells(variable.name, name)
 }
 
-// The variables of a name in a method.
-#[derive(Drop)]
-struct VariablesCalled<'a> {
-    text: &'a [u8],
-    outline: &'a Outline,
-    method: usize,
-    name: &'a [u8],
-}
-
-impl<'a> Test for VariablesCalled<'a> {
-    ghost passes = { λ s i. variable_alike s.text.now (contents s.outline.now) s.method s.name.now i };
-
-    fn passes_at(&self, i: usize) -> bool {
-        match self.outline.variables.get(i) {
-            None => false,
-            Some(variable) => {
-                variable.method == self.method && spells(self.text, variable.name, self.name)
-            }
-        }
-    }
-}
-
-// The first variable of the method that has the name at a place.
-pub(crate) fn variable_named<'a>(
-    text: &'a [u8],
-    outline: &'a Outline,
-    method: usize,
-    place: usize,
-) -> Option<usize>
-    ensures { result ≡ variable_named text.now (contents outline.now) method place }
+// The first variable of the method that has the name.
+fn variable_called(source: &Source<'_>, method: usize, name: &[u8]) -> Option<usize>
+    ensures { result ≡ position (λ (v : _). v.method == method && is_name source.now.text.now v.name name.now) (contents source.now.outline.now).variables }
 {
-    let called = VariablesCalled {
-        text,
-        outline,
-        method,
-        name: name_at(text, place),
-    };
-    first(&called, outline.variables.len())
+    let variables = source.outline.variables.as_slice();
+    variables
+        .iter()
+        .position(|variable| is_variable(source, *variable, method, name))
 }
 
-// The variables of a method.
-#[derive(Drop)]
-struct VariablesOf<'a> {
-    outline: &'a Outline,
-    method: usize,
+// The same of the name at a place.
+#[tactic(auto, using(tables::proofs::Chains::position_all), unfolding(crate::specs::Lookup::variable_named))]
+pub(crate) fn variable_named(source: &Source<'_>, method: usize, place: usize) -> Option<usize>
+    ensures { result ≡ variable_named source.now.text.now (contents source.now.outline.now) method place }
+{
+    variable_called(source, method, source.name_at(place))
 }
 
-impl<'a> Test for VariablesOf<'a> {
-    ghost passes = { λ s i. variable_of (contents s.outline.now) s.method i };
-
-    fn passes_at(&self, i: usize) -> bool {
-        match self.outline.variables.get(i) {
-            None => false,
-            Some(variable) => variable.method == self.method,
-        }
-    }
+// How many of the first i variables are of the method.
+fn variables_before(source: &Source<'_>, method: usize, i: usize) -> usize
+    ensures { result ≡ count_by (λ (v : _). v.method == method) (take i (contents source.now.outline.now).variables) }
+{
+    let variables = source.outline.variables.as_slice();
+    variables
+        .iter()
+        .take(i)
+        .filter(|variable| variable.method == method)
+        .count()
 }
 
 // The number of a variable in its method.
-pub(crate) fn variable_number<'a>(outline: &'a Outline, method: usize, i: usize) -> usize
-    ensures { result ≡ variable_number (contents outline.now) method i }
+#[tactic(auto, using(tables::proofs::Chains::count_take), unfolding(crate::specs::Lookup::variable_number))]
+pub(crate) fn variable_number(source: &Source<'_>, method: usize, i: usize) -> usize
+    ensures { result ≡ variable_number (contents source.now.outline.now) method i }
 {
-    let own = VariablesOf { outline, method };
-    count(&own, i)
+    variables_before(source, method, i)
 }
 
-// The fields of a name in a row.
-#[derive(Drop)]
-struct FieldsCalled<'a> {
-    text: &'a [u8],
-    outline: &'a Outline,
-    owner: CellRow,
-    name: &'a [u8],
-}
-
-impl<'a> Test for FieldsCalled<'a> {
-    ghost passes = { λ s i. field_is s.text.now (contents s.outline.now) s.owner s.name.now i };
-
-    fn passes_at(&self, i: usize) -> bool {
-        match self.outline.fields.get(i) {
-            None => false,
-            Some(field) => {
-                same_row(field.owner, self.owner) && spells(self.text, field.name, self.name)
-            }
-        }
-    }
-}
-
-// The fields of a name, by the rows of a line.
-#[derive(Drop)]
-struct Fields<'a> {
-    text: &'a [u8],
-    outline: &'a Outline,
-    lineage: Lineage,
-    name: &'a [u8],
-}
-
-impl<'a> Members for Fields<'a> {
-    type Member = usize;
-
-    ghost member = { λ s n. field_of s.text.now (contents s.outline.now) s.lineage s.name.now n };
-
-    fn member_at(&self, row: u8) -> Option<usize> {
-        let called = FieldsCalled {
-            text: self.text,
-            outline: self.outline,
-            owner: CellRow {
-                lineage: self.lineage,
-                number: row,
-            },
-            name: self.name,
-        };
-        first(&called, self.outline.fields.len())
-    }
-}
-
-// What was found, without the row where it was.
-fn found_there(found: Option<(u8, usize)>) -> Option<usize>
-    ensures { result ≡ found_there found }
+// Whether the field is declared in the row and has the name.
+#[tactic(auto, using(declarations::proofs::Same::row_is))]
+fn is_field(source: &Source<'_>, field: Field, row: CellRow, name: &[u8]) -> bool
+    ensures { result ≡ (same_row field.owner row && is_name source.now.text.now field.name name.now) }
 {
-    match found {
-        None => None,
-        Some((_, member)) => Some(member),
-    }
+    field.owner == row && source.spells(field.name, name)
 }
 
-// The field with the name at a place that is found upward from a row.
-fn field_upward<'a>(
-    text: &'a [u8],
-    outline: &'a Outline,
-    declarations: &'a Declarations,
-    row: CellRow,
-    place: usize,
-) -> Option<usize>
-    ensures { result ≡ field_upward text.now (contents outline.now) (declared declarations.now) row place }
+// The first field that is declared in the row and has the name.
+fn field_called(source: &Source<'_>, row: CellRow, name: &[u8]) -> Option<usize>
+    ensures { result ≡ position (λ (f : _). same_row f.owner row && is_name source.now.text.now f.name name.now) (contents source.now.outline.now).fields }
 {
-    let fields = Fields {
-        text,
-        outline,
-        lineage: row.lineage,
-        name: name_at(text, place),
-    };
-    found_there(nearest(
-        line_in(&declarations.lines, row.lineage),
-        row.number,
-        &fields,
-    ))
+    let fields = source.outline.fields.as_slice();
+    fields
+        .iter()
+        .position(|field| is_field(source, *field, row, name))
 }
 
-// The methods of a name in a row.
-#[derive(Drop)]
-struct MethodsCalled<'a> {
-    text: &'a [u8],
-    outline: &'a Outline,
-    owner: CellRow,
-    name: &'a [u8],
-}
-
-impl<'a> Test for MethodsCalled<'a> {
-    ghost passes = { λ s i. method_alike s.text.now (contents s.outline.now) s.owner s.name.now i };
-
-    fn passes_at(&self, i: usize) -> bool {
-        match self.outline.methods.get(i) {
-            None => false,
-            Some(method) => {
-                same_row(method.owner, self.owner) && spells(self.text, method.name, self.name)
-            }
-        }
-    }
-}
-
-// The methods of a name, by the rows of a line.
-#[derive(Drop)]
-struct Methods<'a> {
-    text: &'a [u8],
-    outline: &'a Outline,
-    lineage: Lineage,
-    name: &'a [u8],
-}
-
-impl<'a> Members for Methods<'a> {
-    type Member = usize;
-
-    ghost member = { λ s n. method_of_row s.text.now (contents s.outline.now) s.lineage s.name.now n };
-
-    fn member_at(&self, row: u8) -> Option<usize> {
-        let called = MethodsCalled {
-            text: self.text,
-            outline: self.outline,
-            owner: CellRow {
-                lineage: self.lineage,
-                number: row,
-            },
-            name: self.name,
-        };
-        first(&called, self.outline.methods.len())
-    }
-}
-
-// The method with the name at a place that is found upward from a row.
-fn method_upward<'a>(
-    text: &'a [u8],
-    outline: &'a Outline,
-    declarations: &'a Declarations,
-    row: CellRow,
-    place: usize,
-) -> Option<usize>
-    ensures { result ≡ method_upward text.now (contents outline.now) (declared declarations.now) row place }
+#[tactic(auto, using(tables::proofs::Chains::position_all), unfolding(crate::specs::Lookup::field_of))]
+fn field_of(source: &Source<'_>, row: CellRow, name: &[u8]) -> Option<usize>
+    ensures { result ≡ field_of source.now.text.now (contents source.now.outline.now) row.lineage name.now row.number }
 {
-    let methods = Methods {
-        text,
-        outline,
-        lineage: row.lineage,
-        name: name_at(text, place),
-    };
-    found_there(nearest(
-        line_in(&declarations.lines, row.lineage),
-        row.number,
-        &methods,
-    ))
+    field_called(source, row, name)
 }
 
-// The field that is found upward from a type, if it is a row.
-pub(crate) fn field_from<'a>(
-    text: &'a [u8],
-    outline: &'a Outline,
-    declarations: &'a Declarations,
-    t: Ty,
-    place: usize,
-) -> Option<usize>
-    ensures { result ≡ field_from text.now (contents outline.now) (declared declarations.now) t place }
+// The first method that is declared in the row and has the name.
+#[tactic(auto, using(tables::proofs::Chains::position_all), unfolding(crate::specs::Lookup::method_of_row))]
+fn method_of(source: &Source<'_>, row: CellRow, name: &[u8]) -> Option<usize>
+    ensures { result ≡ method_of_row source.now.text.now (contents source.now.outline.now) row.lineage name.now row.number }
 {
-    match row_of(t) {
-        None => None,
-        Some(row) => field_upward(text, outline, declarations, row, place),
+    source.method_of(row, name)
+}
+
+impl<'a> Typer<'a> {
+    // The member that is found upward from a row, where `member` tells what a row of its line has.
+    fn upward<F: Fn(u8) -> Option<usize>>(&self, row: CellRow, member: F) -> Option<usize>
+        requires { F.IsAlwaysCallable member }
+        ensures { (m : ℕ → Option ℕ) → Computes (F.post member) m → result ≡ found_there (nearest_up (line_in (declared self.now.declarations.now).ancestry row.lineage) m row.number) }
+    {
+        let line = self.declarations.lines.line(row.lineage);
+        let found = nearest(line, row.number, member);
+        found.map(|(_, member)| member)
     }
-}
 
-// The method that is found upward from a type, if it is a row.
-pub(crate) fn method_from<'a>(
-    text: &'a [u8],
-    outline: &'a Outline,
-    declarations: &'a Declarations,
-    t: Ty,
-    place: usize,
-) -> Option<usize>
-    ensures { result ≡ method_from text.now (contents outline.now) (declared declarations.now) t place }
-{
-    match row_of(t) {
-        None => None,
-        Some(row) => method_upward(text, outline, declarations, row, place),
+    // The field with the name at a place that is found upward from a row.
+    #[tactic(auto, unfolding(crate::specs::Lookup::field_upward))]
+    fn field_upward(&self, row: CellRow, place: usize) -> Option<usize>
+        ensures { result ≡ field_upward self.now.source.text.now (contents self.now.source.outline.now) (declared self.now.declarations.now) row place }
+    {
+        let name = self.source.name_at(place);
+        self.upward(row, |number| {
+            field_of(&self.source, CellRow { number, ..row }, name)
+        })
+    }
+
+    // The method with the name at a place that is found upward from a row.
+    #[tactic(auto, unfolding(crate::specs::Lookup::method_upward))]
+    fn method_upward(&self, row: CellRow, place: usize) -> Option<usize>
+        ensures { result ≡ method_upward self.now.source.text.now (contents self.now.source.outline.now) (declared self.now.declarations.now) row place }
+    {
+        let name = self.source.name_at(place);
+        self.upward(row, |number| {
+            method_of(&self.source, CellRow { number, ..row }, name)
+        })
+    }
+
+    // The field that is found upward from a type, if it is a row.
+    pub(crate) fn field_from(&self, t: Ty, place: usize) -> Option<usize>
+        ensures { result ≡ field_from self.now.source.text.now (contents self.now.source.outline.now) (declared self.now.declarations.now) t place }
+    {
+        self.field_upward(row_of(t)?, place)
+    }
+
+    // The method that is found upward from a type, if it is a row.
+    pub(crate) fn method_from(&self, t: Ty, place: usize) -> Option<usize>
+        ensures { result ≡ method_from self.now.source.text.now (contents self.now.source.outline.now) (declared self.now.declarations.now) t place }
+    {
+        self.method_upward(row_of(t)?, place)
     }
 }

@@ -1,16 +1,18 @@
-ghost use Rattle.std.specs.Prelude.{◌≡◌};
+ghost use Rattle.std.specs.Prelude.{◌≡◌, cond};
+ghost use Rattle.std.specs.List.{slice_get};
 ghost use Rattle.outline.specs.Contents.{contents};
 ghost use Rattle.values.specs.Fits.{fits_to};
+ghost use Rattle.values.specs.Types.{row_type};
+ghost use Rattle.values.specs.declared.types.Lineage.TheVariants.{Relationship};
 ghost use Rattle.declarations.specs.Resolved.{declared};
-ghost use Rattle.typing.specs.Typing.{type_of_row, set_of_row, this_ruling, variable_ruling, new_ruling, partners_ruling, field_ruling, member_ruling, instances_ruling, from_ruling, to_ruling, comparable, compare_ruling, set_variable_ruling, set_field_ruling, set_member_ruling, pair_named, add_ruling, rem_ruling, call_ruling, is_boolean, branch_ruling, return_ruling, ruling_of};
+ghost use Rattle.typing.specs.Typing.{ruled, faulty, type_of_row, set_of_row, this_ruling, variable_ruling, new_ruling, partners_ruling, field_ruling, member_ruling, instances_ruling, from_ruling, to_ruling, comparable, compare_ruling, set_variable_ruling, set_field_ruling, set_member_ruling, pair_named, add_ruling, rem_ruling, call_ruling, is_boolean, branch_ruling, return_ruling, ruling_of};
 
 use crate::lookup::{
-    class_named, field_from, method_from, relationship_named, relationship_of, variable_named,
-    variable_number,
+    class_named, relationship_named, relationship_of, variable_named, variable_number,
 };
 use crate::step::{Ruling, Step};
-use declarations::declarations::Declarations;
-use outline::contents::Outline;
+use crate::typer::Typer;
+use declarations::declarations::Ends;
 use outline::entry::{Node, Shape};
 use values::types::{CellRow, Kind, Lineage, Ty};
 
@@ -26,458 +28,251 @@ fn set_of_row(row: CellRow) -> Ty
     Ty::set_of(row.lineage, row.number)
 }
 
-fn fits(declarations: &Declarations, s: Ty, t: Ty) -> bool
-    ensures { result ≡ fits_to (declared declarations.now).ancestry s t }
+// A type and a step, where the test says so.
+fn typed_if(test: bool, t: Ty, step: Step) -> Option<Ruling>
+    ensures { result ≡ cond test (ruled t step) faulty }
 {
-    declarations.lines.fits(s, t)
-}
-
-fn fits_row(declarations: &Declarations, s: Ty, row: CellRow) -> bool
-    ensures { result ≡ fits_to (declared declarations.now).ancestry s (type_of_row row) }
-{
-    declarations.lines.fits(s, type_of_row(row))
-}
-
-// this: the row that owns the method
-fn this_rule(outline: &Outline, method: usize) -> Ruling
-    ensures { result ≡ this_ruling (contents outline.now) method }
-{
-    match outline.methods.get(method) {
-        None => Ruling::Fault,
-        Some(found) => Ruling::Typed(type_of_row(found.owner), Step::This),
-    }
-}
-
-// A variable of the method has its declared type.
-fn variable_rule<'a>(
-    text: &'a [u8],
-    outline: &'a Outline,
-    declarations: &'a Declarations,
-    method: usize,
-    name: usize,
-) -> Ruling
-    ensures { result ≡ variable_ruling text.now (contents outline.now) (declared declarations.now) method name }
-{
-    match variable_named(text, outline, method, name) {
-        None => Ruling::Fault,
-        Some(i) => match declarations.variables.get(i) {
-            None => Ruling::Fault,
-            Some(t) => Ruling::Typed(t, Step::Variable(variable_number(outline, method, i))),
-        },
-    }
-}
-
-// A new object has its class.
-fn new_rule(text: &[u8], outline: &Outline, name: usize) -> Ruling
-    ensures { result ≡ new_ruling text.now (contents outline.now) name }
-{
-    match class_named(text, outline, name) {
-        None => Ruling::Fault,
-        Some(n) => Ruling::Typed(Ty::of_row(Lineage::Class, n), Step::New(n)),
-    }
-}
-
-// The partners of what fits the first end: a set of the second end.
-fn partners_rule(declarations: &Declarations, s: Ty, r: u8) -> Ruling
-    ensures { result ≡ partners_ruling (declared declarations.now) s r }
-{
-    match declarations.ends.get(r as usize) {
-        None => Ruling::Fault,
-        Some(ends) => {
-            if fits_row(declarations, s, ends.first) {
-                Ruling::Typed(set_of_row(ends.second), Step::Partners(r))
-            } else {
-                Ruling::Fault
-            }
-        }
-    }
-}
-
-// A field that is found upward has its declared type.
-fn field_rule<'a>(
-    text: &'a [u8],
-    outline: &'a Outline,
-    declarations: &'a Declarations,
-    s: Ty,
-    name: usize,
-) -> Ruling
-    ensures { result ≡ field_ruling text.now (contents outline.now) (declared declarations.now) s name }
-{
-    match field_from(text, outline, declarations, s, name) {
-        None => Ruling::Fault,
-        Some(f) => match declarations.fields.get(f) {
-            None => Ruling::Fault,
-            Some(t) => Ruling::Typed(t, Step::Field(f)),
-        },
-    }
-}
-
-// What stands after a dot is a relationship, or else a field.
-fn member_rule<'a>(
-    text: &'a [u8],
-    outline: &'a Outline,
-    declarations: &'a Declarations,
-    s: Ty,
-    name: usize,
-) -> Ruling
-    ensures { result ≡ member_ruling text.now (contents outline.now) (declared declarations.now) s name }
-{
-    match relationship_named(text, outline, name) {
-        None => field_rule(text, outline, declarations, s, name),
-        Some(r) => partners_rule(declarations, s, r),
-    }
-}
-
-// The instances of a relationship from what fits its first end: a set of it.
-fn instances_rule<'a>(
-    text: &'a [u8],
-    outline: &'a Outline,
-    declarations: &'a Declarations,
-    s: Ty,
-    name: usize,
-) -> Ruling
-    ensures { result ≡ instances_ruling text.now (contents outline.now) (declared declarations.now) s name }
-{
-    match relationship_named(text, outline, name) {
-        None => Ruling::Fault,
-        Some(r) => match declarations.ends.get(r as usize) {
-            None => Ruling::Fault,
-            Some(ends) => {
-                if fits_row(declarations, s, ends.first) {
-                    Ruling::Typed(Ty::set_of(Lineage::Relationship, r), Step::Instances(r))
-                } else {
-                    Ruling::Fault
-                }
-            }
-        },
-    }
-}
-
-// The first end of a relationship row.
-fn from_rule(declarations: &Declarations, s: Ty) -> Ruling
-    ensures { result ≡ from_ruling (declared declarations.now) s }
-{
-    match relationship_of(s) {
-        None => Ruling::Fault,
-        Some(r) => match declarations.ends.get(r as usize) {
-            None => Ruling::Fault,
-            Some(ends) => Ruling::Typed(type_of_row(ends.first), Step::From),
-        },
-    }
-}
-
-// The second end of a relationship row.
-fn to_rule(declarations: &Declarations, s: Ty) -> Ruling
-    ensures { result ≡ to_ruling (declared declarations.now) s }
-{
-    match relationship_of(s) {
-        None => Ruling::Fault,
-        Some(r) => match declarations.ends.get(r as usize) {
-            None => Ruling::Fault,
-            Some(ends) => Ruling::Typed(type_of_row(ends.second), Step::To),
-        },
-    }
+    test.then_some(Ruling::Typed(t, step))
 }
 
 // Whether a type is a row or null.
 fn comparable(kind: Kind) -> bool
     ensures { result ≡ comparable kind }
 {
-    match kind {
-        Kind::Boolean => false,
-        Kind::Null => true,
-        Kind::Row(_) => true,
-        Kind::Set(_) => false,
-    }
+    matches!(kind, Kind::Null | Kind::Row(_))
 }
 
-fn compare_rule(s: Ty, t: Ty) -> Ruling
+fn compare_rule(s: Ty, t: Ty) -> Option<Ruling>
     ensures { result ≡ compare_ruling s t }
 {
-    if comparable(s.kind()) && comparable(t.kind()) {
-        Ruling::Typed(Ty::boolean(), Step::Compare)
-    } else {
-        Ruling::Fault
-    }
-}
-
-// What fits a variable is assigned to it, and keeps its own type.
-fn set_variable_rule<'a>(
-    text: &'a [u8],
-    outline: &'a Outline,
-    declarations: &'a Declarations,
-    method: usize,
-    name: usize,
-    t: Ty,
-) -> Ruling
-    ensures { result ≡ set_variable_ruling text.now (contents outline.now) (declared declarations.now) method name t }
-{
-    match variable_named(text, outline, method, name) {
-        None => Ruling::Fault,
-        Some(i) => match declarations.variables.get(i) {
-            None => Ruling::Fault,
-            Some(u) => {
-                if fits(declarations, t, u) {
-                    Ruling::Typed(t, Step::SetVariable(variable_number(outline, method, i)))
-                } else {
-                    Ruling::Fault
-                }
-            }
-        },
-    }
-}
-
-// What fits a field that is found upward is assigned to it, and keeps its own type.
-fn set_field_rule<'a>(
-    text: &'a [u8],
-    outline: &'a Outline,
-    declarations: &'a Declarations,
-    s: Ty,
-    name: usize,
-    t: Ty,
-) -> Ruling
-    ensures { result ≡ set_field_ruling text.now (contents outline.now) (declared declarations.now) s name t }
-{
-    match field_from(text, outline, declarations, s, name) {
-        None => Ruling::Fault,
-        Some(f) => match declarations.fields.get(f) {
-            None => Ruling::Fault,
-            Some(u) => {
-                if fits(declarations, t, u) {
-                    Ruling::Typed(t, Step::SetField(f))
-                } else {
-                    Ruling::Fault
-                }
-            }
-        },
-    }
-}
-
-// Nothing is assigned to a relationship.
-fn set_member_rule<'a>(
-    text: &'a [u8],
-    outline: &'a Outline,
-    declarations: &'a Declarations,
-    s: Ty,
-    name: usize,
-    t: Ty,
-) -> Ruling
-    ensures { result ≡ set_member_ruling text.now (contents outline.now) (declared declarations.now) s name t }
-{
-    match relationship_named(text, outline, name) {
-        None => set_field_rule(text, outline, declarations, s, name, t),
-        Some(_) => Ruling::Fault,
-    }
-}
-
-// The relationship with the name, if the two types fit its ends.
-fn pair_named<'a>(
-    text: &'a [u8],
-    outline: &'a Outline,
-    declarations: &'a Declarations,
-    name: usize,
-    s: Ty,
-    t: Ty,
-) -> Option<u8>
-    ensures { result ≡ pair_named text.now (contents outline.now) (declared declarations.now) name s t }
-{
-    match relationship_named(text, outline, name) {
-        None => None,
-        Some(r) => match declarations.ends.get(r as usize) {
-            None => None,
-            Some(ends) => {
-                if fits_row(declarations, s, ends.first) && fits_row(declarations, t, ends.second) {
-                    Some(r)
-                } else {
-                    None
-                }
-            }
-        },
-    }
-}
-
-// An instance is added between what fits the ends.
-fn add_rule<'a>(
-    text: &'a [u8],
-    outline: &'a Outline,
-    declarations: &'a Declarations,
-    name: usize,
-    s: Ty,
-    t: Ty,
-) -> Ruling
-    ensures { result ≡ add_ruling text.now (contents outline.now) (declared declarations.now) name s t }
-{
-    match pair_named(text, outline, declarations, name, s, t) {
-        None => Ruling::Fault,
-        Some(r) => Ruling::Typed(Ty::of_row(Lineage::Relationship, r), Step::Add(r)),
-    }
-}
-
-// An instance is removed between what fits the ends.
-fn rem_rule<'a>(
-    text: &'a [u8],
-    outline: &'a Outline,
-    declarations: &'a Declarations,
-    name: usize,
-    s: Ty,
-    t: Ty,
-) -> Ruling
-    ensures { result ≡ rem_ruling text.now (contents outline.now) (declared declarations.now) name s t }
-{
-    match pair_named(text, outline, declarations, name, s, t) {
-        None => Ruling::Fault,
-        Some(r) => Ruling::Typed(Ty::of_row(Lineage::Relationship, r), Step::Rem(r)),
-    }
-}
-
-// A method that is found upward, with an argument that fits its parameter, has its result's type.
-fn call_rule<'a>(
-    text: &'a [u8],
-    outline: &'a Outline,
-    declarations: &'a Declarations,
-    s: Ty,
-    name: usize,
-    t: Ty,
-) -> Ruling
-    ensures { result ≡ call_ruling text.now (contents outline.now) (declared declarations.now) s name t }
-{
-    match method_from(text, outline, declarations, s, name) {
-        None => Ruling::Fault,
-        Some(m) => match declarations.methods.get(m) {
-            None => Ruling::Fault,
-            Some(signature) => {
-                if fits(declarations, t, signature.parameter) {
-                    Ruling::Typed(signature.result, Step::Call(m))
-                } else {
-                    Ruling::Fault
-                }
-            }
-        },
-    }
-}
-
-fn is_boolean(kind: Kind) -> bool
-    ensures { result ≡ is_boolean kind }
-{
-    match kind {
-        Kind::Boolean => true,
-        Kind::Null => false,
-        Kind::Row(_) => false,
-        Kind::Set(_) => false,
-    }
+    typed_if(
+        comparable(s.kind()) && comparable(t.kind()),
+        Ty::boolean(),
+        Step::Compare,
+    )
 }
 
 // A condition is boolean.
-fn branch_rule(s: Ty) -> Ruling
+fn branch_rule(s: Ty) -> Option<Ruling>
     ensures { result ≡ branch_ruling s }
 {
-    if is_boolean(s.kind()) {
-        Ruling::Done(Step::Branch)
-    } else {
-        Ruling::Fault
-    }
+    (s.kind() == Kind::Boolean).then_some(Ruling::Done(Step::Branch))
 }
 
-// What is returned fits the method's result.
-fn return_rule(declarations: &Declarations, method: usize, s: Ty) -> Ruling
-    ensures { result ≡ return_ruling (declared declarations.now) method s }
+fn relationship_type(r: u8) -> Ty
+    ensures { result ≡ row_type Relationship r }
 {
-    match declarations.methods.get(method) {
-        None => Ruling::Fault,
-        Some(signature) => {
-            if fits(declarations, s, signature.result) {
-                Ruling::Done(Step::Return)
-            } else {
-                Ruling::Fault
-            }
+    Ty::of_row(Lineage::Relationship, r)
+}
+
+impl<'a> Typer<'a> {
+    fn fits(&self, s: Ty, t: Ty) -> bool
+        ensures { result ≡ fits_to (declared self.now.declarations.now).ancestry s t }
+    {
+        self.declarations.lines.fits(s, t)
+    }
+
+    fn fits_row(&self, s: Ty, row: CellRow) -> bool
+        ensures { result ≡ fits_to (declared self.now.declarations.now).ancestry s (type_of_row row) }
+    {
+        self.fits(s, type_of_row(row))
+    }
+
+    // The ends of a relationship.
+    fn ends(&self, r: u8) -> Option<Ends>
+        ensures { result ≡ slice_get (declared self.now.declarations.now).ends r }
+    {
+        self.declarations.ends.get(r as usize)
+    }
+
+    // this: the row that owns the method
+    fn this_rule(&self, method: usize) -> Option<Ruling>
+        ensures { result ≡ this_ruling (contents self.now.source.outline.now) method }
+    {
+        let method = self.source.outline.methods.get(method)?;
+        Some(Ruling::Typed(type_of_row(method.owner), Step::This))
+    }
+
+    // A variable of the method has its declared type.
+    fn variable_rule(&self, method: usize, name: usize) -> Option<Ruling>
+        ensures { result ≡ variable_ruling self.now.source.text.now (contents self.now.source.outline.now) (declared self.now.declarations.now) method name }
+    {
+        let i = variable_named(&self.source, method, name)?;
+        let t = self.declarations.variables.get(i)?;
+        let number = variable_number(&self.source, method, i);
+        Some(Ruling::Typed(t, Step::Variable(number)))
+    }
+
+    // A new object has its class.
+    fn new_rule(&self, name: usize) -> Option<Ruling>
+        ensures { result ≡ new_ruling self.now.source.text.now (contents self.now.source.outline.now) name }
+    {
+        let n = class_named(&self.source, name)?;
+        Some(Ruling::Typed(Ty::of_row(Lineage::Class, n), Step::New(n)))
+    }
+
+    // The partners of what fits the first end: a set of the second end.
+    fn partners_rule(&self, s: Ty, r: u8) -> Option<Ruling>
+        ensures { result ≡ partners_ruling (declared self.now.declarations.now) s r }
+    {
+        let ends = self.ends(r)?;
+        typed_if(
+            self.fits_row(s, ends.first),
+            set_of_row(ends.second),
+            Step::Partners(r),
+        )
+    }
+
+    // A field that is found upward has its declared type.
+    fn field_rule(&self, s: Ty, name: usize) -> Option<Ruling>
+        ensures { result ≡ field_ruling self.now.source.text.now (contents self.now.source.outline.now) (declared self.now.declarations.now) s name }
+    {
+        let f = self.field_from(s, name)?;
+        let t = self.declarations.fields.get(f)?;
+        Some(Ruling::Typed(t, Step::Field(f)))
+    }
+
+    // What stands after a dot is a relationship, or else a field.
+    fn member_rule(&self, s: Ty, name: usize) -> Option<Ruling>
+        ensures { result ≡ member_ruling self.now.source.text.now (contents self.now.source.outline.now) (declared self.now.declarations.now) s name }
+    {
+        match relationship_named(&self.source, name) {
+            None => self.field_rule(s, name),
+            Some(r) => self.partners_rule(s, r),
         }
     }
-}
 
-// What the rules say of a node whose parts have these types.
-pub fn rule<'a>(
-    text: &'a [u8],
-    outline: &'a Outline,
-    declarations: &'a Declarations,
-    node: Node,
-    left: Option<Ty>,
-    right: Option<Ty>,
-) -> Ruling
-    ensures { result ≡ ruling_of text.now (contents outline.now) (declared declarations.now) node left right }
-{
-    match node.shape {
-        Shape::Variable => variable_rule(text, outline, declarations, node.method, node.name),
-        Shape::True => Ruling::Typed(Ty::boolean(), Step::Truth(true)),
-        Shape::False => Ruling::Typed(Ty::boolean(), Step::Truth(false)),
-        Shape::Null => Ruling::Typed(Ty::null(), Step::Null),
-        Shape::This => this_rule(outline, node.method),
-        Shape::New => new_rule(text, outline, node.name),
-        Shape::Add => match left {
-            None => Ruling::Waits,
-            Some(s) => match right {
-                None => Ruling::Waits,
-                Some(t) => add_rule(text, outline, declarations, node.name, s, t),
-            },
-        },
-        Shape::Rem => match left {
-            None => Ruling::Waits,
-            Some(s) => match right {
-                None => Ruling::Waits,
-                Some(t) => rem_rule(text, outline, declarations, node.name, s, t),
-            },
-        },
-        Shape::Member => match left {
-            None => Ruling::Waits,
-            Some(s) => member_rule(text, outline, declarations, s, node.name),
-        },
-        Shape::Call => match left {
-            None => Ruling::Waits,
-            Some(s) => match right {
-                None => Ruling::Waits,
-                Some(t) => call_rule(text, outline, declarations, s, node.name, t),
-            },
-        },
-        Shape::Instances => match left {
-            None => Ruling::Waits,
-            Some(s) => instances_rule(text, outline, declarations, s, node.name),
-        },
-        Shape::From => match left {
-            None => Ruling::Waits,
-            Some(s) => from_rule(declarations, s),
-        },
-        Shape::To => match left {
-            None => Ruling::Waits,
-            Some(s) => to_rule(declarations, s),
-        },
-        Shape::Equal => match left {
-            None => Ruling::Waits,
-            Some(s) => match right {
-                None => Ruling::Waits,
-                Some(t) => compare_rule(s, t),
-            },
-        },
-        Shape::SetVariable => match right {
-            None => Ruling::Waits,
-            Some(t) => set_variable_rule(text, outline, declarations, node.method, node.name, t),
-        },
-        Shape::SetMember => match left {
-            None => Ruling::Waits,
-            Some(s) => match right {
-                None => Ruling::Waits,
-                Some(t) => set_member_rule(text, outline, declarations, s, node.name, t),
-            },
-        },
-        Shape::Action => match left {
-            None => Ruling::Waits,
-            Some(_) => Ruling::Done(Step::Drop),
-        },
-        Shape::Branch => match left {
-            None => Ruling::Waits,
-            Some(s) => branch_rule(s),
-        },
-        Shape::Return => match left {
-            None => Ruling::Waits,
-            Some(s) => return_rule(declarations, node.method, s),
-        },
+    // The instances of a relationship from what fits its first end: a set of it.
+    fn instances_rule(&self, s: Ty, name: usize) -> Option<Ruling>
+        ensures { result ≡ instances_ruling self.now.source.text.now (contents self.now.source.outline.now) (declared self.now.declarations.now) s name }
+    {
+        let r = relationship_named(&self.source, name)?;
+        let ends = self.ends(r)?;
+        typed_if(
+            self.fits_row(s, ends.first),
+            Ty::set_of(Lineage::Relationship, r),
+            Step::Instances(r),
+        )
+    }
+
+    // The first end of a relationship row.
+    fn from_rule(&self, s: Ty) -> Option<Ruling>
+        ensures { result ≡ from_ruling (declared self.now.declarations.now) s }
+    {
+        let ends = self.ends(relationship_of(s)?)?;
+        Some(Ruling::Typed(type_of_row(ends.first), Step::From))
+    }
+
+    // The second end of a relationship row.
+    fn to_rule(&self, s: Ty) -> Option<Ruling>
+        ensures { result ≡ to_ruling (declared self.now.declarations.now) s }
+    {
+        let ends = self.ends(relationship_of(s)?)?;
+        Some(Ruling::Typed(type_of_row(ends.second), Step::To))
+    }
+
+    // What fits a variable is assigned to it, and keeps its own type.
+    fn set_variable_rule(&self, method: usize, name: usize, t: Ty) -> Option<Ruling>
+        ensures { result ≡ set_variable_ruling self.now.source.text.now (contents self.now.source.outline.now) (declared self.now.declarations.now) method name t }
+    {
+        let i = variable_named(&self.source, method, name)?;
+        let declared = self.declarations.variables.get(i)?;
+        let number = variable_number(&self.source, method, i);
+        typed_if(self.fits(t, declared), t, Step::SetVariable(number))
+    }
+
+    // What fits a field that is found upward is assigned to it, and keeps its own type.
+    fn set_field_rule(&self, s: Ty, name: usize, t: Ty) -> Option<Ruling>
+        ensures { result ≡ set_field_ruling self.now.source.text.now (contents self.now.source.outline.now) (declared self.now.declarations.now) s name t }
+    {
+        let f = self.field_from(s, name)?;
+        let declared = self.declarations.fields.get(f)?;
+        typed_if(self.fits(t, declared), t, Step::SetField(f))
+    }
+
+    // Nothing is assigned to a relationship.
+    fn set_member_rule(&self, s: Ty, name: usize, t: Ty) -> Option<Ruling>
+        ensures { result ≡ set_member_ruling self.now.source.text.now (contents self.now.source.outline.now) (declared self.now.declarations.now) s name t }
+    {
+        match relationship_named(&self.source, name) {
+            None => self.set_field_rule(s, name, t),
+            Some(_) => None,
+        }
+    }
+
+    // The relationship with the name, if the two types fit its ends.
+    fn pair_named(&self, name: usize, s: Ty, t: Ty) -> Option<u8>
+        ensures { result ≡ pair_named self.now.source.text.now (contents self.now.source.outline.now) (declared self.now.declarations.now) name s t }
+    {
+        let r = relationship_named(&self.source, name)?;
+        let ends = self.ends(r)?;
+        (self.fits_row(s, ends.first) && self.fits_row(t, ends.second)).then_some(r)
+    }
+
+    // An instance is added between what fits the ends.
+    fn add_rule(&self, name: usize, s: Ty, t: Ty) -> Option<Ruling>
+        ensures { result ≡ add_ruling self.now.source.text.now (contents self.now.source.outline.now) (declared self.now.declarations.now) name s t }
+    {
+        let r = self.pair_named(name, s, t)?;
+        Some(Ruling::Typed(relationship_type(r), Step::Add(r)))
+    }
+
+    // An instance is removed between what fits the ends.
+    fn rem_rule(&self, name: usize, s: Ty, t: Ty) -> Option<Ruling>
+        ensures { result ≡ rem_ruling self.now.source.text.now (contents self.now.source.outline.now) (declared self.now.declarations.now) name s t }
+    {
+        let r = self.pair_named(name, s, t)?;
+        Some(Ruling::Typed(relationship_type(r), Step::Rem(r)))
+    }
+
+    // A method that is found upward, with an argument that fits its parameter, has its result's type.
+    fn call_rule(&self, s: Ty, name: usize, t: Ty) -> Option<Ruling>
+        ensures { result ≡ call_ruling self.now.source.text.now (contents self.now.source.outline.now) (declared self.now.declarations.now) s name t }
+    {
+        let m = self.method_from(s, name)?;
+        let signature = self.declarations.methods.get(m)?;
+        typed_if(
+            self.fits(t, signature.parameter),
+            signature.result,
+            Step::Call(m),
+        )
+    }
+
+    // What is returned fits the method's result.
+    fn return_rule(&self, method: usize, s: Ty) -> Option<Ruling>
+        ensures { result ≡ return_ruling (declared self.now.declarations.now) method s }
+    {
+        let signature = self.declarations.methods.get(method)?;
+        self.fits(s, signature.result)
+            .then_some(Ruling::Done(Step::Return))
+    }
+
+    // What the rules say of a node whose parts have these types; none where no rule covers it.
+    pub fn rule(&self, node: Node, left: Option<Ty>, right: Option<Ty>) -> Option<Ruling>
+        ensures { result ≡ ruling_of self.now.source.text.now (contents self.now.source.outline.now) (declared self.now.declarations.now) node left right }
+    {
+        match (node.shape, left, right) {
+            (Shape::Variable(name), _, _) => self.variable_rule(node.method, name),
+            (Shape::True, _, _) => Some(Ruling::Typed(Ty::boolean(), Step::Truth(true))),
+            (Shape::False, _, _) => Some(Ruling::Typed(Ty::boolean(), Step::Truth(false))),
+            (Shape::Null, _, _) => Some(Ruling::Typed(Ty::null(), Step::Null)),
+            (Shape::This, _, _) => self.this_rule(node.method),
+            (Shape::New(name), _, _) => self.new_rule(name),
+            (Shape::Add(name), Some(s), Some(t)) => self.add_rule(name, s, t),
+            (Shape::Rem(name), Some(s), Some(t)) => self.rem_rule(name, s, t),
+            (Shape::Member(name), Some(s), _) => self.member_rule(s, name),
+            (Shape::Call(name), Some(s), Some(t)) => self.call_rule(s, name, t),
+            (Shape::Instances(name), Some(s), _) => self.instances_rule(s, name),
+            (Shape::From, Some(s), _) => self.from_rule(s),
+            (Shape::To, Some(s), _) => self.to_rule(s),
+            (Shape::Equal, Some(s), Some(t)) => compare_rule(s, t),
+            (Shape::SetVariable(name), _, Some(t)) => self.set_variable_rule(node.method, name, t),
+            (Shape::SetMember(name), Some(s), Some(t)) => self.set_member_rule(s, name, t),
+            (Shape::Action, Some(_), _) => Some(Ruling::Done(Step::Drop)),
+            (Shape::Branch, Some(s), _) => branch_rule(s),
+            (Shape::Return, Some(s), _) => self.return_rule(node.method, s),
+            // a part has no type
+            _ => Some(Ruling::Waits),
+        }
     }
 }

@@ -2,11 +2,12 @@ use values::types::Ty;
 
 // What a node does, with its names resolved. Variables are numbered within their method, the parameter first; fields and
 // methods in the whole text; classes and relationships in their lines.
-#[derive(Clone, Copy)]
+#[derive(Clone, Copy, PartialEq, Eq, Debug, Default)]
 pub enum Step {
     Variable(usize),
     This,
     Truth(bool),
+    #[default]
     Null,
     New(u8),
     Add(u8),
@@ -25,22 +26,21 @@ pub enum Step {
     Return,
 }
 
-// What the typing rules say of a node: it has a type, it is a statement in order, a part of it has no type, or no rule
-// gives it a type.
-#[derive(Clone, Copy)]
+// What the typing rules say of a node that they cover: it has a type, it is a statement in order, or a part of it has no
+// type.
+#[derive(Clone, Copy, PartialEq, Eq, Debug)]
 pub enum Ruling {
     Typed(Ty, Step),
     Done(Step),
     Waits,
-    Fault,
 }
 
 // A node's step, with its method, its place in the text and the numbers of its parts.
-#[derive(Clone, Copy)]
+#[derive(Clone, Copy, PartialEq, Eq, Debug, Default)]
 pub struct Instruction {
     pub step: Step,
     pub method: usize,
     pub place: usize,
-    pub left: usize,
-    pub right: usize,
+    pub left: Option<usize>,
+    pub right: Option<usize>,
 }

@@ -75,8 +75,11 @@ module _ {a : Ancestry} (lines : AreLines a) where
 none_has : (c : ℕ) → has none c ≡ true → ⊥
 none_has c e = both_ways (has none c) (has_none c) e
 
-pub initial_at : (t : Ty) (k : Kind) → t.kind ≡ k → Initially t (initial_of k)
+initial_at : (t : Ty) (k : Kind) → t.kind ≡ k → Initially t (initial_of k)
 initial_at t kinds.Boolean e = λ a rows. admits_truth e
 initial_at t kinds.Null e = λ a rows. null_admits e
 initial_at t (kinds.Row l) e = λ a rows. admits_null e
 initial_at t (kinds.Set l) e = λ a rows. admits_set e (λ c m. absurd (none_has c m))
+
+pub initially : (t : Ty) {v : Value} → v ≡ initial_of t.kind → Initially t v
+initially t e = rw e (initial_at t t.kind refl)

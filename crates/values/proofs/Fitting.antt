@@ -1,7 +1,8 @@
 -- The laws of fitting.
-use Rattle.std.proofs.Common.{◌≡◌, ℕ, Bool, true, false, length, Decides, sym, refl, ◌∙◌, inl, inr, arith}
+use Rattle.std.proofs.Common.{◌≡◌, ℕ, ◌&&◌, eqb, ltb, Bool, true, false, length, Decides, sym, refl, inl, inr, arith}
 use Rattle.std.proofs.lemmas.Bool.{both_ways, eqb-true, eq-eqb, ltb-true, lt-ltb, and_parts, and_from, cases_Bool, or_left}
-use Rattle.std.proofs.lemmas.Bool.Decides.{same_from_decides}
+use Rattle.std.proofs.lemmas.Bool.Decides.{Decides-at, same_from_decides}
+use Rattle.descent.specs.Descent.{descends_to}
 use Rattle.descent.proofs.Order as order
 use Rattle.descent.proofs.Rows.{is_line}
 use Rattle.values.specs.declared.types.Lineage.{Lineage}
@@ -10,13 +11,31 @@ use Rattle.values.specs.declared.types.Kind.{Kind}
 use Rattle.values.specs.declared.types.Kind.TheVariants.{Boolean, Null, Row, Set}
 use Rattle.values.specs.declared.types.Ty.{Ty}
 use Rattle.values.specs.declared.lines.Lines.{Lines}
-use Rattle.values.specs.Fits.{Ancestry, AreLines, RowFits, class_row, relationship_row, as_object, Fits, fits_itself, fits_row, null_fits, fits_set, row_fits_to, kind_fits_to, same_type, fits_to}
+use Rattle.values.specs.Fits.{Ancestry, AreLines, RowFits, class_row, relationship_row, as_object, Fits, fits_itself, fits_row, null_fits, fits_set, line_in, row_fits_to, kind_fits_to, same_type, fits_to}
 use Rattle.values.specs.Lines.{ancestry}
-use Rattle.values.proofs.SameType.{same_decides}
+use Rattle.values.proofs.SameType.{never, lineages_apart, same_decides}
 
 pub are_lines : (l : Lines) → AreLines (ancestry l)
 unfolding ancestry
 are_lines l = record { classes = is_line l.classes; relationships = is_line l.relationships }
+
+-- rows of one line, and of two
+pub fits_in_line : (a : Ancestry) (k l : Lineage) (m n : ℕ) → k ≡ l → row_fits_to a k m l n ≡ descends_to (line_in a k) m n
+unfolding row_fits_to
+fits_in_line a Class Class m n e = refl
+fits_in_line a Class Relationship m n e = absurd (lineages_apart e)
+fits_in_line a Relationship Class m n e = absurd (lineages_apart (sym e))
+fits_in_line a Relationship Relationship m n e = refl
+
+pub class_fits_none : (a : Ancestry) (l : Lineage) (m n : ℕ) → (Class ≡ l → ⊥) → row_fits_to a Class m l n ≡ false
+unfolding row_fits_to
+class_fits_none a Class m n ne = absurd (ne refl)
+class_fits_none a Relationship m n ne = refl
+
+pub relationship_fits : (a : Ancestry) (l : Lineage) (m n : ℕ) → (Relationship ≡ l → ⊥) → row_fits_to a Relationship m l n ≡ (eqb n 0 && ltb m (length a.relationships))
+unfolding row_fits_to
+relationship_fits a Class m n ne = refl
+relationship_fits a Relationship m n ne = absurd (ne refl)
 
 module _ {a : Ancestry} (lines : AreLines a) where
   pub row_transitive : {j k l : Lineage} {m n o : ℕ} → RowFits a j m k n → RowFits a k n l o → RowFits a j m l o
@@ -39,11 +58,10 @@ module _ {a : Ancestry} (lines : AreLines a) where
       let d = order.descends_decides lines.relationships m n in
       (λ e. relationship_row (d.0 e), λ f. elim f [ relationship_row e ↦ d.1 e ])
 
-  pub row_same : {k l : Lineage} {m n : ℕ} (r : Bool) → r ≡ row_fits_to a k m l n → Decides r (RowFits a k m l n)
-  row_same {k} {l} {m} {n} r e = let d = row_fits_decides k m l n in (λ t. d.0 (sym e ∙ t), λ f. e ∙ d.1 f)
-
-  never : {C : Type 0} → false ≡ true → C
-  never e = absurd (both_ways false refl e)
+  -- a test that says what the function says tells
+  pub row_told : {k l : Lineage} {m n : ℕ} {r : Bool} → r ≡ row_fits_to a k m l n
+      → record { relation : Decides r (RowFits a k m l n); same : r ≡ row_fits_to a k m l n }
+  row_told {k} {l} {m} {n} {r} e = record { relation = Decides-at r _ e (row_fits_decides k m l n); same = e }
 
   kinds_fit : (s t : Ty) (k l : Kind) → s.kind ≡ k → t.kind ≡ l → kind_fits_to a k s.row l t.row ≡ true → Fits a s t
   kinds_fit s t Boolean l p q e = never e

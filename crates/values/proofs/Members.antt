@@ -1,7 +1,10 @@
 -- The tests of admission tell.
-use Rattle.std.proofs.Common.{◌≡◌, ℕ, ◌<◌, Bool, true, false, Some, None, Decides, Option, sym, refl, inl, inr}
+use Rattle.std.proofs.Common.{◌≡◌, ◌+◌, ◌∙◌, subst, length, arith, ℕ, ◌<◌, Bool, true, Some, None, Decides, Option, sym, refl, inl, inr}
 use Rattle.std.proofs.lemmas.Bool.{both_ways, cases_Bool, cases_lt}
-use Rattle.std.proofs.lemmas.Bool.Decides.{Decides-below_and}
+use Rattle.std.proofs.lemmas.Bool.Decides.{Decides-at, Decides-below_and, same_from_decides}
+use Rattle.std.specs.List.{list_all, range_with_len}
+use Rattle.std.proofs.lemmas.List.FromFn.{length-range_with_len, get_or-range_with_len}
+use Rattle.std.proofs.lemmas.List.Sums.{AllPass-from_list_all, list_all-from_AllPass}
 use Rattle.cells.specs.declared.CellSet.{CellSet}
 use Rattle.cells.specs.Members.{has}
 use Rattle.cells.proofs.Laws.{has_past}
@@ -14,27 +17,34 @@ use Rattle.values.specs.declared.value.Value.{Value}
 use Rattle.values.specs.declared.value.Value.TheVariants.{Truth, Null, Cell, Set}
 use Rattle.values.specs.Fits.{Ancestry, AreLines}
 use Rattle.values.specs.Admits.{CellFits, Admits, admits_truth, null_admits, admits_null, admits_cell, admits_set, cell_fits_to, all_below, member_fits_to, members_fit_to, admits_to}
-use Rattle.values.proofs.Fitting.{row_fits_decides}
-
-never : {C : Type 0} → false ≡ true → C
-never e = absurd (both_ways false refl e)
+use Rattle.values.proofs.Fitting.{are_lines, row_fits_decides}
+use Rattle.values.specs.Lines.{ancestry}
+use Rattle.values.specs.declared.lines.Lines.{Lines}
+use Rattle.values.proofs.SameType.{never}
 
 below_decides : (f : ℕ → Bool) (n : ℕ) → Decides (all_below f n) ((k : ℕ) → k < n → f k ≡ true)
 unfolding all_below
 below_decides f n = Decides-below_and f (λ k. f k ≡ true) (all_below f) (λ k. (λ e. e, λ e. e)) refl (λ _. refl) n
 
-module _ (a : Ancestry) (rows : ℕ → Option CellRow) (s : CellSet) (l : Lineage) (n : ℕ) where
-  pub all_fit : ((k : ℕ) → k < 128 → member_fits_to a rows s l n k ≡ true) → true ≡ members_fit_to a rows s l n
-  unfolding members_fit_to
-  all_fit h = sym ((below_decides (member_fits_to a rows s l n) 128).1 h)
+-- a test of all numbers of a range from 0 on
+pub all_told : (f : ℕ → Bool) (n : ℕ) (r : Bool) → r ≡ list_all f (range_with_len 0 n) → r ≡ all_below f n
+all_told f n r e = same_from_decides r (all_below f n) (there, back) (below_decides f n)
+  where
+    long : length (range_with_len 0 n) ≡ n
+    long = length-range_with_len 0 n
 
-  pub one_fails : (k : ℕ) → k < 128 → member_fits_to a rows s l n k ≡ false → false ≡ members_fit_to a rows s l n
-  unfolding members_fit_to
-  one_fails k h e =
-      elim (cases_Bool (all_below (member_fits_to a rows s l n) 128)) [
-        | inl t ↦ absurd (both_ways (member_fits_to a rows s l n k) e ((below_decides (member_fits_to a rows s l n) 128).0 t k h))
-        | inr f ↦ sym f
-      ]
+    there : r ≡ true → (k : ℕ) → k < n → f k ≡ true
+    there t k h =
+        let z : 0 + k ≡ k = omega arith in
+        subst (λ x. f x ≡ true) (get_or-range_with_len 0 n k 0 h ∙ z) (AllPass-from_list_all f (range_with_len 0 n) (sym e ∙ t) k 0 (omega (arith, long)))
+
+    back : ((k : ℕ) → k < n → f k ≡ true) → r ≡ true
+    back h =
+        e
+        ∙ list_all-from_AllPass f (range_with_len 0 n) (λ k d l.
+        let b : k < n = omega (arith, long) in
+        let z : 0 + k ≡ k = omega arith in
+        subst (λ x. f x ≡ true) (sym (get_or-range_with_len 0 n k d b ∙ z)) (h k b))
 
 module _ {a : Ancestry} (lines : AreLines a) (rows : ℕ → Option CellRow) where
   cell_true : (l : Lineage) (n c : ℕ) (o : Option CellRow) → rows c ≡ o → cell_fits_to a o l n ≡ true → CellFits a rows l n c
@@ -90,3 +100,8 @@ module _ {a : Ancestry} (lines : AreLines a) (rows : ℕ → Option CellRow) whe
 
   pub admits_decides : (t : Ty) (v : Value) → Decides (admits_to a rows t.kind t.row v) (Admits a rows t v)
   admits_decides t v = (admits_true t t.kind v refl, admits_from t)
+
+-- an answer that is the function's tells
+pub admits_told : (l : Lines) (rows : ℕ → Option CellRow) (t : Ty) (v : Value) {r : Bool} → r ≡ admits_to (ancestry l) rows t.kind t.row v
+    → Decides r (Admits (ancestry l) rows t v)
+admits_told l rows t v e = Decides-at _ _ e (admits_decides (are_lines l) rows t v)

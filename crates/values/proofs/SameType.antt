@@ -1,5 +1,5 @@
 -- Types with the same kind and row are equal.
-use Rattle.std.proofs.Common.{◌≡◌, true, false, Decides, refl, ap}
+use Rattle.std.proofs.Common.{◌≡◌, Bool, true, false, Decides, refl, ap}
 use mathlib.Core.Bool.{Bool-set}
 use mathlib.Core.HLevel.{is_prop→PathP}
 use Rattle.values.specs.declared.types.Ty.{Ty}
@@ -19,8 +19,15 @@ ty_same s t p q =
       plain = is_prop→PathP (λ j. plain_row (p j) (q j) ≡ true) (λ j. Bool-set _ _) s.plain t.plain i;
     }
 
-never : {C : Type 0} → false ≡ true → C
+-- where `==` compares both fields, it tells
+pub ty_told : {s t : Ty} {r : Bool} → Decides r ((s.kind ≡ t.kind) × (s.row ≡ t.row)) → Decides r (s ≡ t)
+ty_told {s} {t} d = (λ e. let h = d.0 e in ty_same s t h.0 h.1, λ e. d.1 (ap (λ u. u.kind) e, ap (λ u. u.row) e))
+
+pub never : {C : Type 0} → false ≡ true → C
 never e = absurd (both_ways false refl e)
+
+pub lineages_apart : Class ≡ Relationship → ⊥
+lineages_apart e = never (ap (same_lineage Relationship) e)
 
 lineage_true : (k l : Lineage) → same_lineage k l ≡ true → k ≡ l
 lineage_true Class Class e = refl

@@ -12,6 +12,11 @@ pub record Ancestry : Type 0 where
   pub classes : List ℕ
   pub relationships : List ℕ
 
+-- the line of a lineage
+abbrev pub line_in : Ancestry → Lineage → List ℕ
+line_in a Class = a.classes
+line_in a Relationship = a.relationships
+
 pub record AreLines (a : Ancestry) : Type 0 where
   pub classes : IsLine a.classes
   pub relationships : IsLine a.relationships

@@ -4,7 +4,7 @@ ghost use Rattle.values.specs.Lines.{ancestry};
 ghost use Rattle.values.specs.declared.types.CellRow.{CellRow};
 
 use crate::lines::Lines;
-use crate::types::{CellRow, Kind, Lineage, Ty};
+use crate::types::{CellRow, Kind, Ty};
 use crate::value::Value;
 use cells::CellSet;
 
@@ -17,59 +17,56 @@ pub trait CellRows {
         ensures { result ≡ rows self.now cell };
 }
 
-// Whether the cell is there and its row fits row n of the line.
-fn cell_fits<R: CellRows>(lines: &Lines, cells: &R, lineage: Lineage, n: u8, cell: u8) -> bool
-    ensures { result ≡ cell_fits_to (ancestry lines.now) (R.CellRows.rows cells.now cell) lineage n }
-{
-    match cells.row_of(cell) {
-        None => false,
-        Some(row) => lines.row_fits(row.lineage, row.number, lineage, n),
+// A row that cells may fit, among the lines and the cells that there are.
+#[derive(Drop)]
+struct Fitting<'a, R> {
+    lines: &'a Lines,
+    cells: &'a R,
+    row: CellRow,
+}
+
+impl<'a, R: CellRows> Fitting<'a, R> {
+    // Whether the cell is there and its row fits.
+    fn cell(&self, cell: u8) -> bool
+        ensures { result ≡ cell_fits_to (ancestry self.now.lines.now) (R.CellRows.rows self.now.cells.now cell) self.now.row.lineage self.now.row.number }
+    {
+        let CellRow { lineage, number } = self.row;
+        self.cells.row_of(cell).is_some_and(|row| self
+            .lines
+            .row_fits(row.lineage, row.number, lineage, number))
     }
-}
 
-// The same of the cell, if it is a member of the set.
-fn member_fits<R: CellRows>(
-    lines: &Lines,
-    cells: &R,
-    lineage: Lineage,
-    n: u8,
-    set: CellSet,
-    cell: u8,
-) -> bool
-    ensures { result ≡ member_fits_to (ancestry lines.now) (R.CellRows.rows cells.now) set lineage n cell }
-{
-    !set.contains(cell) || cell_fits(lines, cells, lineage, n, cell)
-}
-
-// The same of every member of a set.
-fn members_fit<R: CellRows>(lines: &Lines, cells: &R, lineage: Lineage, n: u8, set: CellSet) -> bool
-    ensures { result ≡ members_fit_to (ancestry lines.now) (R.CellRows.rows cells.now) set lineage n }
-{
-    for c in 0..128u8 {
-        if !member_fits(lines, cells, lineage, n, set, c) {
-            return false;
-        }
+    // The same of the cell, if it is a member of the set.
+    fn member(&self, set: CellSet, cell: u8) -> bool
+        ensures { result ≡ member_fits_to (ancestry self.now.lines.now) (R.CellRows.rows self.now.cells.now) set self.now.row.lineage self.now.row.number cell }
+    {
+        !set.contains(cell) || self.cell(cell)
     }
-    true
-}
 
-fn admitted<R: CellRows>(lines: &Lines, cells: &R, t: Ty, value: Value) -> bool
-    ensures { result ≡ admits_to (ancestry lines.now) (R.CellRows.rows cells.now) t.kind t.row value }
-{
-    match (t.kind(), value) {
-        (Kind::Boolean, Value::Truth(_)) => true,
-        (Kind::Null, Value::Null) => true,
-        (Kind::Row(_), Value::Null) => true,
-        (Kind::Row(l), Value::Cell(c)) => cell_fits(lines, cells, l, t.row(), c),
-        (Kind::Set(l), Value::Set(s)) => members_fit(lines, cells, l, t.row(), s),
-        _ => false,
+    // The same of every member of the set.
+    fn members(&self, set: CellSet) -> bool
+        ensures { result ≡ members_fit_to (ancestry self.now.lines.now) (R.CellRows.rows self.now.cells.now) set self.now.row.lineage self.now.row.number }
+    {
+        (0..128u8).all(|cell| self.member(set, cell))
     }
 }
 
 // Whether a variable or field of type `t` may hold the value.
+#[tactic(auto, using(crate::proofs::Members::admits_told))]
 pub fn admits<R: CellRows>(lines: &Lines, cells: &R, t: Ty, value: Value) -> bool
     ensures relation { Decides result (Admits (ancestry lines.now) (R.CellRows.rows cells.now) t value) }
     ensures same { result ≡ admits_to (ancestry lines.now) (R.CellRows.rows cells.now) t.kind t.row value }
 {
-    admitted(lines, cells, t, value)
+    let at = |lineage| Fitting {
+        lines,
+        cells,
+        row: CellRow::new(lineage, t.row()),
+    };
+    match (t.kind(), value) {
+        (Kind::Boolean, Value::Truth(_)) => true,
+        (Kind::Null | Kind::Row(_), Value::Null) => true,
+        (Kind::Row(lineage), Value::Cell(cell)) => at(lineage).cell(cell),
+        (Kind::Set(lineage), Value::Set(set)) => at(lineage).members(set),
+        _ => false,
+    }
 }

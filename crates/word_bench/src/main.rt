@@ -3,7 +3,8 @@
 
 ghost use Rattle.std.specs.Prelude.{◌≡◌, IfOk, vec_len};
 
-use anyhow::anyhow;
+use anyhow::{anyhow, ensure};
+use program_tools::arguments::first_is;
 use std::alloc::{AllocError, Global};
 use std::env;
 use std::time::Instant;
@@ -41,41 +42,34 @@ class Mill extends Object {
 ";
 
 // A text of so many bytes.
-fn text_of(heap: Global, size: u32) -> Result<Vec<u8>, AllocError>
+fn text_of(heap: Global, size: usize) -> Result<Vec<u8>, AllocError>
     ensures { IfOk result (λ text. vec_len text ≡ size) }
 {
-    let mut text = Vec::new(heap);
-    for i in 0..size {
-        text.push(MODEL[i as usize % MODEL.len()])?;
-    }
-    Ok(text)
+    MODEL.iter().copied().cycle().take(size).collect(heap)
 }
 
 // How many words all passes see together. Each pass looks at another text, whose last byte differs, so that none can
 // be left out.
-fn words_seen(text: &mut Vec<u8>, passes: u32) -> Result<usize, Unreadable> {
+fn words_seen(text: &mut [u8], passes: u32) -> Result<usize, Unreadable> {
     let mut seen: usize = 0;
     for pass in 0..passes {
         if let Some(last) = text.last_mut() {
             *last = if pass % 2 == 0 { b' ' } else { b'\n' };
         }
-        seen = seen.wrapping_add(survey(text.as_slice())?.words);
+        seen = seen.wrapping_add(survey(text)?.words);
     }
     Ok(seen)
 }
 
 // The seconds of the fastest round.
-fn fastest(rt: &HostRuntime, text: &mut Vec<u8>, passes: u32) -> anyhow::Result<f64> {
+fn fastest(rt: &HostRuntime, text: &mut [u8], passes: u32) -> anyhow::Result<f64> {
     let mut best = f64::INFINITY;
     for _ in 0..ROUNDS {
         let start = Instant::now(rt)?;
-        let seen = words_seen(text, passes);
+        let seen = words_seen(text, passes).map_err(|_| anyhow!("a text that is refused"));
         let seconds = start.elapsed(rt)?.as_secs_f64();
-        match seen {
-            Ok(0) => return Err(anyhow!("a text of no words")),
-            Ok(_) => best = best.min(seconds),
-            Err(_) => return Err(anyhow!("a text that is refused")),
-        }
+        ensure!(seen? > 0, "a text of no words");
+        best = best.min(seconds);
     }
     Ok(best)
 }
@@ -84,8 +78,8 @@ fn measure(rt: &HostRuntime) -> anyhow::Result<()> {
     for kib in [4u32, 8, 16, 32] {
         let size = kib * 1024;
         let passes = BYTES_OF_A_ROUND / size;
-        let mut text = text_of(rt.alloc(), size)?;
-        let seconds = fastest(rt, &mut text, passes)?;
+        let mut text = text_of(rt.alloc(), size as usize)?;
+        let seconds = fastest(rt, text.as_mut_slice(), passes)?;
         let micros = seconds * 1e6 / passes as f64;
         let rate = BYTES_OF_A_ROUND as f64 / seconds / 1e6;
         println!(rt; "{kib:>2} KiB: {micros:>6.2} us a pass, {rate:>6.1} million bytes a second")?;
@@ -93,21 +87,10 @@ fn measure(rt: &HostRuntime) -> anyhow::Result<()> {
     Ok(())
 }
 
-fn asked_to_run(rt: &HostRuntime) -> anyhow::Result<bool> {
-    match env::args(rt)?.nth(1) {
-        Some(word) => Ok(word.as_str() == "run"),
-        None => Ok(false),
-    }
-}
-
-fn act(rt: &HostRuntime) -> anyhow::Result<()> {
-    if asked_to_run(rt)? {
-        return measure(rt);
+fn main(rt: HostRuntime) -> anyhow::Result<()> {
+    if first_is(env::args(&rt)?, "run") {
+        return measure(&rt);
     }
     println!(rt; "word_bench run: measures how fast texts of 4 to 32 KiB are surveyed")?;
     Ok(())
-}
-
-fn main(rt: HostRuntime) -> anyhow::Result<()> {
-    act(&rt)
 }

@@ -1,4 +1,3 @@
 pub mod Cutting
-pub mod Fronts
 pub mod Keywords
 pub mod Surveying

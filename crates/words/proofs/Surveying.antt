@@ -1,5 +1,5 @@
 -- A text's words, seen one after another.
-use Rattle.std.proofs.Common.{◌≡◌, ℕ, zero, suc, pred, ◌+◌, ◌-◌, ◌<◌, ◌≤◌, max, Bool, true, false, cond, ◌&&◌, leb, List, [], ◌∷◌, length, Some, None, Ok, Err, Option, Result, refl, ap, ◌∙◌, arith}
+use Rattle.std.proofs.Common.{◌≡◌, ℕ, zero, suc, pred, ◌+◌, ◌-◌, ◌<◌, ◌≤◌, max, Bool, true, false, cond, ◌&&◌, leb, List, [], ◌∷◌, length, Some, None, Ok, Err, Option, Result, refl, sym, ap, ◌∙◌, arith}
 use Rattle.std.proofs.lemmas.Bool.{le-ltb, lt-ltb}
 use Rattle.words.specs.declared.kind.Kind.{Kind}
 use Rattle.words.specs.declared.kind.Kind.TheVariants.{Fault}
@@ -108,6 +108,11 @@ pub surveyed_short : (text : List ℕ) → length text ≤ 32768 → surveyed te
 unfolding surveyed
 surveyed_short text h =
     rw (le-ltb 32768 (length text) h) (joined (first_fault (words text)) (too_deep 0 (words text)) (too_deep 0 (words text)) refl (omega arith) (omega arith))
+
+-- what is left to say of a text that is not too long, where the words ws are still to come
+pub surveyed_at : (text : List ℕ) (n : Nesting) (k : ℕ) (left ws : List Token) → length text ≤ 32768
+    → conclude n k left ≡ conclude (nesting 0 0 None) 0 (words text) → left ≡ ws → surveyed text ≡ conclude n k ws
+surveyed_at text n k left ws short same e = surveyed_short text short ∙ sym same ∙ ap (conclude n k) e
 
 pub surveyed_long : (text : List ℕ) → 32768 < length text → surveyed text ≡ Err TooLong
 unfolding surveyed

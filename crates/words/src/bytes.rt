@@ -1,4 +1,4 @@
-ghost use Rattle.std.specs.Prelude.{◌≡◌, ℕ, ◌≤◌, Bool, length};
+ghost use Rattle.std.specs.Prelude.{◌≡◌, ℕ, ◌<◌, ◌≤◌, true, false, length, slice_index};
 ghost use Rattle.std.specs.List.{prefix_len};
 ghost use Rattle.words.specs.Bytes.{separator, name_byte, begins};
 
@@ -12,71 +12,58 @@ pub(crate) enum Begins {
     Nothing,
 }
 
-// A class of bytes.
-pub(crate) trait ByteClass {
-    ghost holds: { ℕ → Bool };
-
-    fn has(b: u8) -> bool
-        ensures { result ≡ holds b };
-}
-
-// The bytes that stand between words.
-pub(crate) struct Separators;
-
-impl ByteClass for Separators {
-    ghost holds = { separator };
-
-    fn has(b: u8) -> bool {
-        match b as char {
-            '\t' | '\n' | '\r' | ' ' => true,
-            _ => false,
+// How many bytes at the front pass the test.
+fn run_of<F: Fn(u8) -> bool>(s: &[u8], passes: F) -> usize
+    requires { F.IsAlwaysCallable passes }
+    ensures within { result ≤ length s.now }
+    ensures passing { (k : ℕ) → k < result → F.post passes (slice_index s.now k) true }
+    ensures stopped { result < length s.now → F.post passes (slice_index s.now result) false }
+{
+    // a chain of `take_while` and `count` makes a survey a seventh slower
+    for (n, &b) in s.iter().enumerate() {
+        if !passes(b) {
+            return n;
         }
     }
+    s.len()
 }
 
-// The bytes that can go on a name.
-pub(crate) struct NameBytes;
-
-impl ByteClass for NameBytes {
-    ghost holds = { name_byte };
-
-    fn has(b: u8) -> bool {
-        match b as char {
-            'a'..='z' | 'A'..='Z' | '_' | '0'..='9' => true,
-            _ => false,
-        }
-    }
-}
-
-// How many bytes of the class stand at the front.
-pub(crate) fn run_of<C: ByteClass>(s: &[u8]) -> usize
-    ensures is { result ≡ prefix_len C.ByteClass.holds s.now }
+// How many separators stand at the front.
+pub(crate) fn separators(s: &[u8]) -> usize
+    ensures is { result ≡ prefix_len separator s.now }
     ensures within { result ≤ length s.now }
 {
-    let mut n = 0;
-    while n < s.len() && C::has(s[n]) {
-        n += 1;
-    }
-    n
+    run_of(s, |b| matches!(b, b'\t' | b'\n' | b'\r' | b' '))
+}
+
+// How many bytes at the front can go on a name.
+pub(crate) fn name_bytes(s: &[u8]) -> usize
+    ensures is { result ≡ prefix_len name_byte s.now }
+    ensures within { result ≤ length s.now }
+{
+    run_of(
+        s,
+        |b| matches!(b, b'a'..=b'z' | b'A'..=b'Z' | b'_' | b'0'..=b'9'),
+    )
 }
 
 // What the byte begins.
 pub(crate) fn begun_by(b: u8) -> Begins
     ensures { result ≡ begins b }
 {
-    match b as char {
-        'a'..='z' | 'A'..='Z' | '_' => Begins::Name,
-        '{' => Begins::Sign(Kind::OpenBrace),
-        '}' => Begins::Sign(Kind::CloseBrace),
-        '(' => Begins::Sign(Kind::OpenParen),
-        ')' => Begins::Sign(Kind::CloseParen),
-        ',' => Begins::Sign(Kind::Comma),
-        ';' => Begins::Sign(Kind::Semicolon),
-        '<' => Begins::Sign(Kind::Less),
-        '>' => Begins::Sign(Kind::Greater),
-        '.' => Begins::Sign(Kind::Dot),
-        ':' => Begins::Sign(Kind::Colon),
-        '=' => Begins::Sign(Kind::Assign),
+    match b {
+        b'a'..=b'z' | b'A'..=b'Z' | b'_' => Begins::Name,
+        b'{' => Begins::Sign(Kind::OpenBrace),
+        b'}' => Begins::Sign(Kind::CloseBrace),
+        b'(' => Begins::Sign(Kind::OpenParen),
+        b')' => Begins::Sign(Kind::CloseParen),
+        b',' => Begins::Sign(Kind::Comma),
+        b';' => Begins::Sign(Kind::Semicolon),
+        b'<' => Begins::Sign(Kind::Less),
+        b'>' => Begins::Sign(Kind::Greater),
+        b'.' => Begins::Sign(Kind::Dot),
+        b':' => Begins::Sign(Kind::Colon),
+        b'=' => Begins::Sign(Kind::Assign),
         _ => Begins::Nothing,
     }
 }

@@ -1,8 +1,5 @@
-ghost use Rattle.std.specs.Prelude.{◌≡◌};
-ghost use Rattle.words.specs.Kinds.{is};
-
 // What a word is. `Fault` is what no text may hold: a byte that begins no word, or a name over 31 bytes.
-#[derive(Clone, Copy, Debug)]
+#[derive(Clone, Copy, PartialEq, Eq, Debug)]
 pub enum Kind {
     Name,
     Class,
@@ -35,12 +32,4 @@ pub enum Kind {
     Assign,
     Equal,
     Fault,
-}
-
-impl Kind {
-    pub fn is(self, other: Kind) -> bool
-        ensures { result ≡ is self other }
-    {
-        self as u8 == other as u8
-    }
 }

@@ -1,6 +1,6 @@
-ghost use Rattle.std.specs.Prelude.{◌≡◌, ◌^◌, ◌<◌, None};
+ghost use Rattle.std.specs.Prelude.{◌≡◌, ◌^◌, ◌<◌};
 ghost use Rattle.words.specs.Nesting.{opens, closes};
-ghost use Rattle.words.specs.Nests.{nesting, passed};
+ghost use Rattle.words.specs.Nests.{passed};
 
 use crate::kind::Kind;
 
@@ -8,8 +8,8 @@ use crate::kind::Kind;
 const DEEPEST: usize = 16;
 
 // Brackets as they stand after some words: how many are open, the most that were, and the place of the first that
-// opened one too many.
-#[derive(Clone, Copy)]
+// opened one too many. By default no word has been passed.
+#[derive(Clone, Copy, Default)]
 pub(crate) struct Nesting {
     pub(crate) depth: usize,
     pub(crate) most: usize,
@@ -19,41 +19,24 @@ pub(crate) struct Nesting {
 fn is_opener(kind: Kind) -> bool
     ensures { result ≡ opens kind }
 {
-    match kind {
-        Kind::OpenParen | Kind::OpenBrace => true,
-        _ => false,
-    }
+    matches!(kind, Kind::OpenParen | Kind::OpenBrace)
 }
 
 fn is_closer(kind: Kind) -> bool
     ensures { result ≡ closes kind }
 {
-    match kind {
-        Kind::CloseParen | Kind::CloseBrace => true,
-        _ => false,
-    }
+    matches!(kind, Kind::CloseParen | Kind::CloseBrace)
 }
 
 impl Nesting {
-    // No word has been passed.
-    pub(crate) fn none() -> Nesting
-        ensures { result ≡ nesting 0 0 None }
-    {
-        Nesting {
-            depth: 0,
-            most: 0,
-            over: None,
-        }
-    }
-
     // Passes one word, which stands at `place`.
     pub(crate) fn pass(&mut self, kind: Kind, place: usize)
         requires { self.old.depth < 2 ^ 32 }
         ensures { self.new ≡ passed self.old kind place }
     {
         if is_opener(kind) {
-            if self.depth >= DEEPEST && self.over.is_none() {
-                self.over = Some(place);
+            if self.depth >= DEEPEST {
+                self.over = self.over.or(Some(place));
             }
             self.depth += 1;
             self.most = self.most.max(self.depth);

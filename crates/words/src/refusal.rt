@@ -1,8 +1,12 @@
-ghost use Rattle.std.specs.Prelude.{◌≡◌};
+ghost use Rattle.std.specs.Prelude.{◌≡◌, Some, ◌++◌, ◌∷◌};
+ghost use Rattle.std.specs.Fmt.{decimal};
 ghost use Rattle.words.specs.Refusals.{number_of, place_of};
 
+use std::error::Error;
+use std::fmt;
+
 // Why a text cannot be read as words.
-#[derive(Clone, Copy, Debug)]
+#[derive(Clone, Copy, PartialEq, Eq, Debug)]
 pub enum Unreadable {
     // over 32,768 bytes
     TooLong,
@@ -30,8 +34,18 @@ impl Unreadable {
     {
         match self {
             Unreadable::TooLong => 0,
-            Unreadable::NotAllowed { place } => place,
-            Unreadable::TooDeep { place } => place,
+            Unreadable::NotAllowed { place } | Unreadable::TooDeep { place } => place,
         }
     }
 }
+
+// The refusal's number and its place, with a space between them.
+impl fmt::Display for Unreadable {
+    ghost output = { λ r. Some (decimal (number_of r) ++ 32 ∷ decimal (place_of r)) };
+
+    fn fmt<W: fmt::Write>(&self, f: &mut fmt::Formatter<W>) -> fmt::Result {
+        write!(f, "{} {}", self.number(), self.place())
+    }
+}
+
+impl Error for Unreadable {}

@@ -1,97 +1,36 @@
-ghost use Rattle.std.specs.Prelude.{◌≡◌, nat_eq, nat_lt};
-ghost use Rattle.std.specs.Str.{bytes_eq};
+ghost use Rattle.std.specs.Prelude.{◌≡◌};
 ghost use Rattle.words.specs.declared.bytes.Begins.TheVariants.{Sign};
-ghost use Rattle.words.specs.Spelling.{among, keywords, of_size, named, begun, front_of};
+ghost use Rattle.words.specs.Spelling.{among, keywords, named, begun, front_of};
 
-use crate::bytes::{Begins, NameBytes, begun_by, run_of};
+use crate::bytes::{Begins, begun_by, name_bytes};
 use crate::kind::Kind;
 
 // The longest name, in bytes.
 const LONGEST_NAME: usize = 31;
 
-pub(crate) fn same(a: &[u8], b: &[u8]) -> bool
-    ensures { result ≡ bytes_eq a.now b.now }
-{
-    a == b
-}
-
-fn keyword_of_two(bytes: &[u8]) -> Kind
-    ensures { result ≡ among (of_size (nat_eq 2) keywords) bytes.now }
-{
-    if same(bytes, b"if") {
-        Kind::If
-    } else if same(bytes, b"to") {
-        Kind::To
-    } else {
-        Kind::Name
-    }
-}
-
-fn keyword_of_three(bytes: &[u8]) -> Kind
-    ensures { result ≡ among (of_size (nat_eq 3) keywords) bytes.now }
-{
-    if same(bytes, b"set") {
-        Kind::Set
-    } else if same(bytes, b"new") {
-        Kind::New
-    } else if same(bytes, b"add") {
-        Kind::Add
-    } else if same(bytes, b"rem") {
-        Kind::Rem
-    } else {
-        Kind::Name
-    }
-}
-
-fn keyword_of_four(bytes: &[u8]) -> Kind
-    ensures { result ≡ among (of_size (nat_eq 4) keywords) bytes.now }
-{
-    if same(bytes, b"else") {
-        Kind::Else
-    } else if same(bytes, b"true") {
-        Kind::True
-    } else if same(bytes, b"null") {
-        Kind::Null
-    } else if same(bytes, b"this") {
-        Kind::This
-    } else if same(bytes, b"from") {
-        Kind::From
-    } else {
-        Kind::Name
-    }
-}
-
-// The keywords of five letters and more.
-fn keyword_of_more(bytes: &[u8]) -> Kind
-    ensures { result ≡ among (of_size (nat_lt 4) keywords) bytes.now }
-{
-    if same(bytes, b"class") {
-        Kind::Class
-    } else if same(bytes, b"false") {
-        Kind::False
-    } else if same(bytes, b"return") {
-        Kind::Return
-    } else if same(bytes, b"extends") {
-        Kind::Extends
-    } else if same(bytes, b"boolean") {
-        Kind::Boolean
-    } else if same(bytes, b"relationship") {
-        Kind::Relationship
-    } else {
-        Kind::Name
-    }
-}
-
 // The keyword that these bytes spell, else a name.
 fn keyword_or_name(bytes: &[u8]) -> Kind
     ensures { result ≡ among keywords bytes.now }
 {
-    match bytes.len() {
-        0..=1 => Kind::Name,
-        2 => keyword_of_two(bytes),
-        3 => keyword_of_three(bytes),
-        4 => keyword_of_four(bytes),
-        _ => keyword_of_more(bytes),
+    match bytes {
+        b"if" => Kind::If,
+        b"to" => Kind::To,
+        b"set" => Kind::Set,
+        b"new" => Kind::New,
+        b"add" => Kind::Add,
+        b"rem" => Kind::Rem,
+        b"else" => Kind::Else,
+        b"true" => Kind::True,
+        b"null" => Kind::Null,
+        b"this" => Kind::This,
+        b"from" => Kind::From,
+        b"class" => Kind::Class,
+        b"false" => Kind::False,
+        b"return" => Kind::Return,
+        b"extends" => Kind::Extends,
+        b"boolean" => Kind::Boolean,
+        b"relationship" => Kind::Relationship,
+        _ => Kind::Name,
     }
 }
 
@@ -118,7 +57,7 @@ fn sign_front(kind: Kind, s: &[u8]) -> Front
     ensures { result ≡ begun (Sign kind) s.now }
 {
     match s {
-        [_, b'=', ..] if kind.is(Kind::Assign) => Front {
+        [_, b'=', ..] if kind == Kind::Assign => Front {
             kind: Kind::Equal,
             size: 2,
         },
@@ -130,12 +69,10 @@ fn sign_front(kind: Kind, s: &[u8]) -> Front
 pub(crate) fn front_of(s: &[u8]) -> Option<Front>
     ensures { result ≡ front_of s.now }
 {
-    if s.is_empty() {
-        return None;
-    }
-    Some(match begun_by(s[0]) {
+    let first = *s.first()?;
+    Some(match begun_by(first) {
         Begins::Name => {
-            let size = run_of::<NameBytes>(s);
+            let size = name_bytes(s);
             Front {
                 kind: name_kind(&s[0..size]),
                 size,

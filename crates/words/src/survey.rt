@@ -10,7 +10,7 @@ use crate::refusal::Unreadable;
 pub const LONGEST_TEXT: usize = 32_768;
 
 // A text's words and brackets: how many words, and how deep the brackets go.
-#[derive(Clone, Copy, Debug)]
+#[derive(Clone, Copy, PartialEq, Eq, Debug)]
 pub struct Extent {
     pub words: usize,
     pub depth: usize,
@@ -23,21 +23,20 @@ pub fn survey(text: &[u8]) -> Result<Extent, Unreadable>
     if text.len() > LONGEST_TEXT {
         return Err(Unreadable::TooLong);
     }
-    let mut cursor = Cursor::new(text);
-    let mut nesting = Nesting::none();
+    let mut nesting = Nesting::default();
     let mut words = 0;
-    while let Some(word) = cursor.next() {
-        if word.kind.is(Kind::Fault) {
+    for word in Cursor::new(text) {
+        if word.kind == Kind::Fault {
             return Err(Unreadable::NotAllowed { place: word.place });
         }
         nesting.pass(word.kind, word.place);
         words += 1;
     }
-    match nesting.over {
-        Some(place) => Err(Unreadable::TooDeep { place }),
-        None => Ok(Extent {
-            words,
-            depth: nesting.most,
-        }),
+    if let Some(place) = nesting.over {
+        return Err(Unreadable::TooDeep { place });
     }
+    Ok(Extent {
+        words,
+        depth: nesting.most,
+    })
 }

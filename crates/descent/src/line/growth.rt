@@ -5,6 +5,7 @@ use super::{Line, RowRefusal};
 
 impl Line {
     // A line of the root alone.
+    #[tactic(auto, unfolding(crate::specs::Rows::line_of))]
     pub fn new() -> Line
         ensures { line_of result ≡ 0 ∷ [] }
     {

@@ -14,6 +14,7 @@ impl Line {
     }
 
     // The parent of a row; none for row 0 and for a row that is not there.
+    #[tactic(auto, using(crate::proofs::Rows::rows_are, crate::proofs::Rows::parent_there))]
     pub fn parent(&self, row: u8) -> Option<u8>
         ensures { MatchOption result ((p : ℕ) → Parent (line_of self.now) row p → ⊥) (Parent (line_of self.now) row) }
     {

@@ -4,9 +4,13 @@ ghost use Rattle.store.specs.Model.{new_cell};
 ghost use Rattle.even_store.specs.EvenPlaces.{even_lawful};
 
 use super::{EvenStore, Place};
-use store::Store;
+use arrayvec::ArrayVec;
 use store::cell::{Absent, Head, MakeRefusal};
+use store::{CELL_LIMIT, FIELD_LIMIT, Store};
 use values::value::Value;
+
+// The slots charged for a cell.
+const CHARGE: usize = FIELD_LIMIT;
 
 impl Place {
     // A cell of that many null fields.
@@ -14,92 +18,81 @@ impl Place {
         requires { fields ≤ 8 }
         ensures { placed result ≡ new_cell head fields }
     {
+        let mut nulls = ArrayVec::from([Value::Null; FIELD_LIMIT]);
+        nulls.truncate(fields as usize);
         Place {
             head,
-            count: fields,
-            values: [Value::Null; 8],
+            fields: nulls,
         }
     }
 }
 
+impl Default for Place {
+    fn default() -> Place {
+        Place::new(Head::Object { class: 0 }, 0)
+    }
+}
+
+#[tactic(auto, using(crate::proofs::Places::answers))]
 impl Store for EvenStore {
     ghost model = { even_model };
 
     ghost lawful = { even_lawful };
 
     fn clear(&mut self) {
-        self.used = 0;
+        self.places.clear();
     }
 
     fn make(&mut self, head: Head, fields: u8) -> Result<u8, MakeRefusal> {
-        if fields > 8 {
-            return Err(MakeRefusal::Fields);
-        }
-        if self.used >= 128 {
-            return Err(MakeRefusal::Cells);
-        }
-        let cell = self.used;
-        self.places[cell] = Place::new(head, fields);
-        self.used = cell + 1;
-        Ok(cell as u8)
+        let cell = self.next_cell(fields)?;
+        self.places.push(Place::new(head, fields));
+        Ok(cell)
     }
 
     fn put(&mut self, cell: u8, field: u8, value: Value) -> Result<(), Absent> {
-        if cell as usize >= self.used {
-            return Err(Absent::Cell);
-        }
-        let mut place = self.places[cell as usize];
-        if field >= place.count {
-            return Err(Absent::Field);
-        }
-        place.values[field as usize] = value;
-        self.places[cell as usize] = place;
+        let place = self.places.get_mut(cell as usize).ok_or(Absent::Cell)?;
+        let held = place.fields.get_mut(field as usize).ok_or(Absent::Field)?;
+        *held = value;
         Ok(())
     }
 
     fn head(&self, cell: u8) -> Option<Head> {
-        if cell as usize >= self.used {
-            return None;
-        }
-        Some(self.places[cell as usize].head)
+        self.places.get(cell as usize).map(|place| place.head)
     }
 
     fn fields(&self, cell: u8) -> Option<u8> {
-        if cell as usize >= self.used {
-            return None;
-        }
-        Some(self.places[cell as usize].count)
+        self.places
+            .get(cell as usize)
+            .map(|place| place.fields.len() as u8)
     }
 
     fn value(&self, cell: u8, field: u8) -> Result<Value, Absent> {
-        if cell as usize >= self.used {
-            return Err(Absent::Cell);
-        }
-        let place = self.places[cell as usize];
-        if field >= place.count {
-            return Err(Absent::Field);
-        }
-        Ok(place.values[field as usize])
+        let place = self.places.get(cell as usize).ok_or(Absent::Cell)?;
+        place
+            .fields
+            .get(field as usize)
+            .copied()
+            .ok_or(Absent::Field)
     }
 
     fn cells(&self) -> u8 {
-        self.used as u8
+        self.places.len() as u8
     }
 
     fn slots(&self) -> u16 {
-        self.used as u16 * 8
+        (self.places.len() * CHARGE) as u16
     }
 
     fn cell_limit(&self) -> u8 {
-        128
+        CELL_LIMIT as u8
     }
 
     fn slot_limit(&self) -> u16 {
-        1024
+        (CELL_LIMIT * CHARGE) as u16
     }
 
     fn charge(&self, _fields: u8) -> u8 {
-        8
+        CHARGE as u8
     }
 }
 
@@ -108,10 +101,8 @@ impl EvenStore {
     pub fn new() -> EvenStore
         ensures { even_model result ≡ even [] }
     {
-        let blank = Place::new(Head::Object { class: 0 }, 0);
         EvenStore {
-            places: [blank; 128],
-            used: 0,
+            places: ArrayVec::new(),
         }
     }
 }

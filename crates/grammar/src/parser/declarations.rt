@@ -1,7 +1,7 @@
 ghost use Rattle.std.specs.Prelude.{◌≡◌, Bool, true, false, ◌&&◌, List, ◌∷◌, Some};
 ghost use Rattle.words.specs.declared.kind.Kind.TheVariants.{Class, Relationship, Semicolon};
 ghost use Rattle.grammar.specs.declared.parser.Parser.{Parser as Reader};
-ghost use Rattle.grammar.specs.Bodies.{GivesTree, GivesMember, GivesMembers, GivesHeading, GivesEnds, GivesInside, GivesProgram, Finished, Headed, Gathered, Falls};
+ghost use Rattle.grammar.specs.Bodies.{GivesTree, GivesMember, GivesMembers, GivesHeading, GivesEnds, GivesInside, GivesProgram, Finished, Headed, fields_in, Gathered, Falls};
 ghost use Rattle.grammar.specs.Machine.{Sym, decls, members};
 ghost use Rattle.grammar.specs.Told.{rest, kind_at, seen, type_begins};
 ghost use Rattle.grammar.specs.Trees.{decl, method as method-sort};
@@ -11,6 +11,27 @@ use super::reading::Unexpected;
 use crate::event::{Event, TypeWord};
 use crate::sink::Sink;
 use words::kind::Kind;
+
+// What may come next between a declaration's braces: fields or methods, or methods alone.
+#[derive(Clone, Copy, PartialEq, Eq, Debug)]
+pub(crate) enum Section {
+    Fields,
+    Methods,
+}
+
+// The places of the names that a declaration begins with.
+#[derive(Clone, Copy, Debug)]
+pub(crate) struct Heading {
+    pub(crate) name: usize,
+    pub(crate) parent: usize,
+}
+
+// The places of the names of a relationship's ends.
+#[derive(Clone, Copy, Debug)]
+pub(crate) struct Ends {
+    pub(crate) first: usize,
+    pub(crate) second: usize,
+}
 
 impl<'a> Parser<'a> {
     // A method whose result type and name are read, from its opening bracket on.
@@ -43,37 +64,41 @@ impl<'a> Parser<'a> {
         Ok(())
     }
 
-    // Whether a field ends here, where `fields` says that one may come.
-    fn field_ends(&self, fields: bool) -> bool
-        ensures { result ≡ (seen Semicolon (rest self.now) && fields) }
+    // Whether a field ends here.
+    fn field_ends(&self, section: Section) -> bool
+        ensures { result ≡ (seen Semicolon (rest self.now) && fields_in section) }
     {
-        self.sees(Kind::Semicolon) && fields
+        section == Section::Fields && self.sees(Kind::Semicolon)
     }
 
-    // A field, where `fields` says that one may come, or a method; the answer says whether a field may come next.
-    fn member_or_field<S: Sink>(&mut self, fields: bool, sink: &mut S) -> Result<bool, Unexpected>
+    // A field or a method; the answer says what may come next.
+    fn member_or_field<S: Sink>(
+        &mut self,
+        section: Section,
+        sink: &mut S,
+    ) -> Result<Section, Unexpected>
         requires { type_begins (rest self.old) ≡ true }
-        ensures gives { (s : Reader) (l : S) → Gathered S.Sink.after fields s l self.old sink.old → GivesMember S.Sink.after s l result self.new sink.new }
+        ensures gives { (s : Reader) (l : S) → Gathered S.Sink.after section s l self.old sink.old → GivesMember S.Sink.after s l result self.new sink.new }
         ensures falls { Falls self.old result self.new }
     {
         let typed = self.typed()?;
         let name = self.take(Kind::Name)?;
-        if self.field_ends(fields) {
+        if self.field_ends(section) {
             self.advance();
             sink.put(Event::Declared { typed, name });
-            return Ok(true);
+            return Ok(Section::Fields);
         }
         self.method(typed, name, sink)?;
-        Ok(false)
+        Ok(Section::Methods)
     }
 
     // Fields and then methods, as many as there are.
     fn members<S: Sink>(&mut self, sink: &mut S) -> Result<(), Unexpected>
         ensures { GivesMembers S.Sink.after self.old sink.old result self.new sink.new }
     {
-        let mut fields = true;
+        let mut section = Section::Fields;
         while self.at_type() {
-            fields = self.member_or_field(fields, sink)?;
+            section = self.member_or_field(section, sink)?;
         }
         Ok(())
     }
@@ -89,17 +114,17 @@ impl<'a> Parser<'a> {
     }
 
     // The name of a declaration and that of its parent.
-    fn heading(&mut self) -> Result<(usize, usize), Unexpected>
+    fn heading(&mut self) -> Result<Heading, Unexpected>
         ensures { GivesHeading self.old result self.new }
     {
         let name = self.take(Kind::Name)?;
         self.take(Kind::Extends)?;
         let parent = self.take(Kind::Name)?;
-        Ok((name, parent))
+        Ok(Heading { name, parent })
     }
 
     // The names of a relationship's ends, in their brackets.
-    fn ends(&mut self) -> Result<(usize, usize), Unexpected>
+    fn ends(&mut self) -> Result<Ends, Unexpected>
         ensures { GivesEnds self.old result self.new }
     {
         self.take(Kind::OpenParen)?;
@@ -107,7 +132,7 @@ impl<'a> Parser<'a> {
         self.take(Kind::Comma)?;
         let second = self.take(Kind::Name)?;
         self.take(Kind::CloseParen)?;
-        Ok((first, second))
+        Ok(Ends { first, second })
     }
 
     fn class<S: Sink>(&mut self, sink: &mut S) -> Result<(), Unexpected>
@@ -116,7 +141,7 @@ impl<'a> Parser<'a> {
         ensures falls { Falls self.old result self.new }
     {
         self.advance();
-        let (name, parent) = self.heading()?;
+        let Heading { name, parent } = self.heading()?;
         sink.put(Event::Class { name, parent });
         self.inside(sink)
     }
@@ -127,8 +152,8 @@ impl<'a> Parser<'a> {
         ensures falls { Falls self.old result self.new }
     {
         self.advance();
-        let (name, parent) = self.heading()?;
-        let (first, second) = self.ends()?;
+        let Heading { name, parent } = self.heading()?;
+        let Ends { first, second } = self.ends()?;
         sink.put(Event::Relationship {
             name,
             parent,
@@ -153,12 +178,10 @@ impl<'a> Parser<'a> {
         ensures { GivesProgram S.Sink.after self.old sink.old result sink.new }
     {
         loop {
-            if self.sees(Kind::Class) {
-                self.class(sink)?;
-            } else if self.sees(Kind::Relationship) {
-                self.relationship(sink)?;
-            } else {
-                return self.finished();
+            match self.kind() {
+                Some(Kind::Class) => self.class(sink)?,
+                Some(Kind::Relationship) => self.relationship(sink)?,
+                _ => return self.finished(),
             }
         }
     }

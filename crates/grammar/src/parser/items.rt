@@ -3,7 +3,7 @@ ghost use Rattle.words.specs.declared.kind.Kind.TheVariants.{Dot, Colon, Equal, 
 ghost use Rattle.grammar.specs.declared.parser.Parser.{Parser as Reader};
 ghost use Rattle.grammar.specs.Events.{fed};
 ghost use Rattle.grammar.specs.Machine.{Form};
-ghost use Rattle.grammar.specs.Told.{rest, kind_at, place_at, literal_at, doing_kind, pairing_at, reads_of, Finds, DottedBare, AfterDot, Named, ReadItem, GivesItem, GivesExpr, GivesPart, Ended, Goes};
+ghost use Rattle.grammar.specs.Told.{rest, kind_at, place_at, literal_at, doing_kind, pairing_at, end_at, reads_of, target_of, Finds, DottedBare, AfterDot, Named, ReadItem, GivesItem, GivesWhole, GivesExpr, GivesPart, Ended, Goes};
 
 use super::Parser;
 use super::reading::Unexpected;
@@ -13,12 +13,26 @@ use words::kind::Kind;
 
 // What an item is so far: a name alone or one that ends in `.name`, of which nothing is reported yet; one that may
 // stand as an action; or any other.
-#[derive(Clone, Copy)]
+#[derive(Clone, Copy, PartialEq, Eq, Debug)]
 pub(crate) enum Found {
     Bare,
     Inner(usize),
     Done,
     Plain,
+}
+
+// An item that is read so far, and the place where it begins.
+#[derive(Clone, Copy, Debug)]
+pub(crate) struct Item {
+    pub(crate) found: Found,
+    pub(crate) place: usize,
+}
+
+// What a part of an expression is: a target, after which more comes, or the last part.
+#[derive(Clone, Copy, PartialEq, Eq, Debug)]
+pub(crate) enum Part {
+    Target,
+    Last,
 }
 
 fn literal_of(kind: Kind) -> Option<Literal>
@@ -33,15 +47,29 @@ fn literal_of(kind: Kind) -> Option<Literal>
     }
 }
 
-// Reports the value of an item that begins at `place`, if it is not reported yet.
-fn report_value<S: Sink>(found: Found, place: usize, sink: &mut S)
-    ensures { sink.new ≡ fed S.Sink.after sink.old (reads_of found place) }
-{
-    match found {
-        Found::Bare => sink.put(Event::Variable { place }),
-        Found::Inner(name) => sink.put(Event::Member { name, place }),
-        Found::Done => {}
-        Found::Plain => {}
+impl Item {
+    // Reports the value, if it is not reported yet.
+    fn report_value<S: Sink>(self, sink: &mut S)
+        ensures { sink.new ≡ fed S.Sink.after sink.old (reads_of self.found self.place) }
+    {
+        let place = self.place;
+        match self.found {
+            Found::Bare => sink.put(Event::Variable { place }),
+            Found::Inner(name) => sink.put(Event::Member { name, place }),
+            Found::Done | Found::Plain => {}
+        }
+    }
+
+    // What reports that it is assigned to, if it can be.
+    pub(crate) fn target(self) -> Option<Event>
+        ensures { result ≡ target_of self.found self.place }
+    {
+        let place = self.place;
+        match self.found {
+            Found::Bare => Some(Event::ToVariable { place }),
+            Found::Inner(name) => Some(Event::ToMember { name, place }),
+            Found::Done | Found::Plain => None,
+        }
     }
 }
 
@@ -50,9 +78,20 @@ impl<'a> Parser<'a> {
     fn pairing(&self, found: Found) -> Option<Pairing>
         ensures { result ≡ pairing_at found (rest self.now) }
     {
-        match found {
-            Found::Bare if self.sees(Kind::Add) => Some(Pairing::Add),
-            Found::Bare if self.sees(Kind::Rem) => Some(Pairing::Rem),
+        match (found, self.kind()) {
+            (Found::Bare, Some(Kind::Add)) => Some(Pairing::Add),
+            (Found::Bare, Some(Kind::Rem)) => Some(Pairing::Rem),
+            _ => None,
+        }
+    }
+
+    // Which end the next word names.
+    fn named_end(&self) -> Option<End>
+        ensures { result ≡ end_at (rest self.now) }
+    {
+        match self.kind() {
+            Some(Kind::From) => Some(End::From),
+            Some(Kind::To) => Some(End::To),
             _ => None,
         }
     }
@@ -62,9 +101,7 @@ impl<'a> Parser<'a> {
         ensures { GivesItem S.Sink.after self.old sink.old (place_at self.old.end (rest self.old)) result self.new sink.new }
     {
         let place = self.place();
-        let Some(kind) = self.kind() else {
-            return Err(Unexpected { place });
-        };
+        let kind = self.kind().ok_or(Unexpected { place })?;
         match kind {
             Kind::Name => {
                 self.advance();
@@ -85,14 +122,12 @@ impl<'a> Parser<'a> {
                 sink.put(Event::Bracket);
                 Ok(Found::Plain)
             }
-            _ => match literal_of(kind) {
-                Some(value) => {
-                    self.advance();
-                    sink.put(Event::Literal { value, place });
-                    Ok(Found::Plain)
-                }
-                None => Err(Unexpected { place }),
-            },
+            _ => {
+                let value = literal_of(kind).ok_or(Unexpected { place })?;
+                self.advance();
+                sink.put(Event::Literal { value, place });
+                Ok(Found::Plain)
+            }
         }
     }
 
@@ -143,20 +178,9 @@ impl<'a> Parser<'a> {
         ensures goes { Goes self.old result self.new }
         ensures gives { (s : Reader) (l : S) → AfterDot S.Sink.after s l self.old sink.old place → GivesItem S.Sink.after s l place result self.new sink.new }
     {
-        if self.sees(Kind::From) {
+        if let Some(end) = self.named_end() {
             self.advance();
-            sink.put(Event::End {
-                end: End::From,
-                place,
-            });
-            return Ok(Found::Plain);
-        }
-        if self.sees(Kind::To) {
-            self.advance();
-            sink.put(Event::End {
-                end: End::To,
-                place,
-            });
+            sink.put(Event::End { end, place });
             return Ok(Found::Plain);
         }
         let name = self.take(Kind::Name)?;
@@ -169,59 +193,49 @@ impl<'a> Parser<'a> {
 
     // An item goes on with a dot.
     #[cycle(atom_call_dotted_expr_item_member_pair_part_right)]
-    fn dotted<S: Sink>(
-        &mut self,
-        found: Found,
-        place: usize,
-        sink: &mut S,
-    ) -> Result<Found, Unexpected>
+    fn dotted<S: Sink>(&mut self, item: Item, sink: &mut S) -> Result<Found, Unexpected>
         requires { kind_at (rest self.old) ≡ Some Dot }
         ensures goes { Goes self.old result self.new }
-        ensures gives { (s : Reader) (l : S) → Finds S.Sink.after s l place found self.old sink.old → GivesItem S.Sink.after s l place result self.new sink.new }
+        ensures gives { (s : Reader) (l : S) → Finds S.Sink.after s l item.place item.found self.old sink.old → GivesItem S.Sink.after s l item.place result self.new sink.new }
     {
         self.advance();
-        match self.pairing(found) {
-            Some(pairing) => self.pair(pairing, place, sink),
-            None => {
-                report_value(found, place, sink);
-                self.member(place, sink)
-            }
+        if let Some(pairing) = self.pairing(item.found) {
+            return self.pair(pairing, item.place, sink);
         }
+        item.report_value(sink);
+        self.member(item.place, sink)
     }
 
     // An item goes on with a colon.
-    fn colon<S: Sink>(
-        &mut self,
-        found: Found,
-        place: usize,
-        sink: &mut S,
-    ) -> Result<Found, Unexpected>
+    fn colon<S: Sink>(&mut self, item: Item, sink: &mut S) -> Result<Found, Unexpected>
         requires { kind_at (rest self.old) ≡ Some Colon }
         ensures goes { Goes self.old result self.new }
-        ensures gives { (s : Reader) (l : S) → Finds S.Sink.after s l place found self.old sink.old → GivesItem S.Sink.after s l place result self.new sink.new }
+        ensures gives { (s : Reader) (l : S) → Finds S.Sink.after s l item.place item.found self.old sink.old → GivesItem S.Sink.after s l item.place result self.new sink.new }
     {
-        report_value(found, place, sink);
+        item.report_value(sink);
         self.advance();
         let name = self.take(Kind::Name)?;
-        sink.put(Event::Instances { name, place });
+        sink.put(Event::Instances {
+            name,
+            place: item.place,
+        });
         Ok(Found::Plain)
     }
 
     #[cycle(atom_call_dotted_expr_item_member_pair_part_right)]
-    pub(crate) fn item<S: Sink>(&mut self, sink: &mut S) -> Result<Found, Unexpected>
-        ensures gives { GivesItem S.Sink.after self.old sink.old (place_at self.old.end (rest self.old)) result self.new sink.new }
+    pub(crate) fn item<S: Sink>(&mut self, sink: &mut S) -> Result<Item, Unexpected>
+        ensures gives { GivesWhole S.Sink.after self.old sink.old result self.new sink.new }
         ensures goes { Goes self.old result self.new }
         ensures ended { Ended result self.new }
     {
         let place = self.place();
-        let mut found = self.atom(sink)?;
+        let found = self.atom(sink)?;
+        let mut item = Item { found, place };
         loop {
-            if self.sees(Kind::Dot) {
-                found = self.dotted(found, place, sink)?;
-            } else if self.sees(Kind::Colon) {
-                found = self.colon(found, place, sink)?;
-            } else {
-                return Ok(found);
+            match self.kind() {
+                Some(Kind::Dot) => item.found = self.dotted(item, sink)?,
+                Some(Kind::Colon) => item.found = self.colon(item, sink)?,
+                _ => return Ok(item),
             }
         }
     }
@@ -233,43 +247,30 @@ impl<'a> Parser<'a> {
         ensures { (s : Reader) (l : S) (f : Form) → ReadItem S.Sink.after s l self.old sink.old place f → GivesExpr S.Sink.after s l result self.new sink.new }
     {
         self.advance();
-        let from = self.place();
-        let found = self.item(sink)?;
-        report_value(found, from, sink);
+        let item = self.item(sink)?;
+        item.report_value(sink);
         sink.put(Event::Equal { place });
         Ok(())
     }
 
-    // An item and what it is read for: a target, after which an expression comes, or the last part of an expression.
+    // An item and what comes with it: `=` after a target, or the right side of `==`.
     #[cycle(atom_call_dotted_expr_item_member_pair_part_right)]
-    fn part<S: Sink>(&mut self, sink: &mut S) -> Result<bool, Unexpected>
+    fn part<S: Sink>(&mut self, sink: &mut S) -> Result<Part, Unexpected>
         ensures { GivesPart S.Sink.after self.old sink.old result self.new sink.new }
     {
-        let place = self.place();
-        let found = self.item(sink)?;
-        if self.sees(Kind::Equal) {
-            report_value(found, place, sink);
-            self.right(place, sink)?;
-            return Ok(false);
-        }
+        let item = self.item(sink)?;
         if self.sees(Kind::Assign) {
-            return match found {
-                Found::Bare => {
-                    self.advance();
-                    sink.put(Event::ToVariable { place });
-                    Ok(true)
-                }
-                Found::Inner(name) => {
-                    self.advance();
-                    sink.put(Event::ToMember { name, place });
-                    Ok(true)
-                }
-                Found::Done => Ok(false),
-                Found::Plain => Ok(false),
-            };
+            if let Some(target) = item.target() {
+                self.advance();
+                sink.put(target);
+                return Ok(Part::Target);
+            }
         }
-        report_value(found, place, sink);
-        Ok(false)
+        item.report_value(sink);
+        if self.sees(Kind::Equal) {
+            self.right(item.place, sink)?;
+        }
+        Ok(Part::Last)
     }
 
     #[cycle(atom_call_dotted_expr_item_member_pair_part_right)]
@@ -277,7 +278,7 @@ impl<'a> Parser<'a> {
         ensures { GivesExpr S.Sink.after self.old sink.old result self.new sink.new }
     {
         let mut targets = 0usize;
-        while self.part(sink)? {
+        while self.part(sink)? == Part::Target {
             targets += 1;
         }
         for _ in 0..targets {

@@ -8,7 +8,7 @@ use words::cursor::Cursor;
 use words::kind::Kind;
 
 // A word that cannot come, by its place.
-#[derive(Clone, Copy)]
+#[derive(Clone, Copy, PartialEq, Eq, Debug)]
 pub struct Unexpected {
     pub place: usize,
 }
@@ -17,11 +17,17 @@ pub struct Unexpected {
 fn begins_statement(kind: Kind) -> bool
     ensures { result ≡ statement_word kind }
 {
-    match kind {
-        Kind::If | Kind::Name | Kind::New | Kind::OpenParen => true,
-        Kind::True | Kind::False | Kind::Null | Kind::This => true,
-        _ => false,
-    }
+    matches!(
+        kind,
+        Kind::If
+            | Kind::Name
+            | Kind::New
+            | Kind::OpenParen
+            | Kind::True
+            | Kind::False
+            | Kind::Null
+            | Kind::This
+    )
 }
 
 impl<'a> Parser<'a> {
@@ -43,30 +49,21 @@ impl<'a> Parser<'a> {
     pub(crate) fn kind(&self) -> Option<Kind>
         ensures { result ≡ kind_at (rest self.now) }
     {
-        match self.word {
-            Some(word) => Some(word.kind),
-            None => None,
-        }
+        self.word.map(|word| word.kind)
     }
 
     // Whether the next word is of this kind.
     pub(crate) fn sees(&self, kind: Kind) -> bool
         ensures { result ≡ seen kind (rest self.now) }
     {
-        match self.word {
-            Some(word) => kind.is(word.kind),
-            None => false,
-        }
+        self.kind() == Some(kind)
     }
 
     // The place of the next word, or of the end.
     pub(crate) fn place(&self) -> usize
         ensures { result ≡ place_at self.now.end (rest self.now) }
     {
-        match self.word {
-            Some(word) => word.place,
-            None => self.end,
-        }
+        self.word.map_or(self.end, |word| word.place)
     }
 
     // Whether the word after the next is a name.
@@ -74,23 +71,17 @@ impl<'a> Parser<'a> {
         ensures { result ≡ seen Name (unread self.now.cursor) }
     {
         let mut ahead = self.cursor;
-        match ahead.next() {
-            Some(word) => Kind::Name.is(word.kind),
-            None => false,
-        }
+        ahead.next().is_some_and(|word| word.kind == Kind::Name)
     }
 
     // Whether a variable's declaration comes next: a keyword that begins a type, or two names.
     pub(crate) fn at_variable(&self) -> bool
         ensures { result ≡ variable_begins (rest self.now) }
     {
-        match self.word {
-            Some(word) => match word.kind {
-                Kind::Boolean | Kind::Set => true,
-                Kind::Name => self.name_follows(),
-                _ => false,
-            },
-            None => false,
+        match self.kind() {
+            Some(Kind::Boolean | Kind::Set) => true,
+            Some(Kind::Name) => self.name_follows(),
+            _ => false,
         }
     }
 
@@ -98,20 +89,14 @@ impl<'a> Parser<'a> {
     pub(crate) fn at_type(&self) -> bool
         ensures { result ≡ type_begins (rest self.now) }
     {
-        match self.kind() {
-            Some(Kind::Boolean) | Some(Kind::Set) | Some(Kind::Name) => true,
-            _ => false,
-        }
+        matches!(self.kind(), Some(Kind::Boolean | Kind::Set | Kind::Name))
     }
 
     // Whether a statement comes next.
     pub(crate) fn at_statement(&self) -> bool
         ensures { result ≡ statement_begins (rest self.now) }
     {
-        match self.kind() {
-            Some(kind) => begins_statement(kind),
-            None => false,
-        }
+        self.kind().is_some_and(begins_statement)
     }
 
     // Passes the next word, if there is one.
@@ -126,11 +111,10 @@ impl<'a> Parser<'a> {
         ensures { Takes kind self.old result self.new }
     {
         let place = self.place();
-        if self.sees(kind) {
-            self.advance();
-            Ok(place)
-        } else {
-            Err(Unexpected { place })
+        if !self.sees(kind) {
+            return Err(Unexpected { place });
         }
+        self.advance();
+        Ok(place)
     }
 }

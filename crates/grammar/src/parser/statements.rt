@@ -7,7 +7,7 @@ ghost use Rattle.grammar.specs.Told.{rest, kind_at, variable_begins, statement_b
 ghost use Rattle.grammar.specs.Trees.{many, stmt, variable};
 
 use super::Parser;
-use super::items::Found;
+use super::items::{Found, Item};
 use super::reading::Unexpected;
 use crate::event::{Event, TypeWord};
 use crate::sink::Sink;
@@ -18,14 +18,16 @@ impl<'a> Parser<'a> {
     pub(crate) fn typed(&mut self) -> Result<TypeWord, Unexpected>
         ensures { GivesType self.old result self.new }
     {
-        if self.sees(Kind::Boolean) {
-            self.advance();
-            Ok(TypeWord::Boolean)
-        } else if self.sees(Kind::Set) {
-            self.set_type()
-        } else {
-            let name = self.take(Kind::Name)?;
-            Ok(TypeWord::Row(name))
+        match self.kind() {
+            Some(Kind::Boolean) => {
+                self.advance();
+                Ok(TypeWord::Boolean)
+            }
+            Some(Kind::Set) => self.set_type(),
+            _ => {
+                let name = self.take(Kind::Name)?;
+                Ok(TypeWord::Row(name))
+            }
         }
     }
 
@@ -66,18 +68,17 @@ impl<'a> Parser<'a> {
     }
 
     // The rest of an action whose first item is found.
-    fn acted<S: Sink>(&mut self, found: Found, place: usize, sink: &mut S) -> Result<(), Unexpected>
+    fn acted<S: Sink>(&mut self, item: Item, sink: &mut S) -> Result<(), Unexpected>
         requires { Settled self.old }
-        ensures { (s : Reader) (l : S) → Finds S.Sink.after s l place found self.old sink.old → GivesAction S.Sink.after s l place result self.new sink.new }
+        ensures { (s : Reader) (l : S) → Finds S.Sink.after s l item.place item.found self.old sink.old → GivesAction S.Sink.after s l item.place result self.new sink.new }
     {
-        match found {
-            Found::Done => Ok(()),
-            Found::Bare => self.assigned(Event::ToVariable { place }, sink),
-            Found::Inner(name) => self.assigned(Event::ToMember { name, place }, sink),
-            Found::Plain => Err(Unexpected {
-                place: self.place(),
-            }),
+        if item.found == Found::Done {
+            return Ok(());
         }
+        let target = item.target().ok_or(Unexpected {
+            place: self.place(),
+        })?;
+        self.assigned(target, sink)
     }
 
     // An action and its semicolon.
@@ -86,11 +87,10 @@ impl<'a> Parser<'a> {
         requires other { kind_at (rest self.old) ≢ Some If }
         ensures { GivesTree S.Sink.after stmt self.old sink.old result self.new sink.new stmts (λ (α : List Sym). stmts ∷ α) }
     {
-        let place = self.place();
-        let found = self.item(sink)?;
-        self.acted(found, place, sink)?;
+        let item = self.item(sink)?;
+        self.acted(item, sink)?;
         self.take(Kind::Semicolon)?;
-        sink.put(Event::Acted { place });
+        sink.put(Event::Acted { place: item.place });
         Ok(())
     }
 

@@ -1,42 +1,38 @@
 ghost use Rattle.std.specs.Prelude.{◌≡◌};
-ghost use Rattle.outline.specs.Building.{class_added, relationship_added, field_added, local_added, last_method, method_added};
+ghost use Rattle.outline.specs.Building.{begun, class_added, relationship_added, field_added, local_added, last_method, method_added};
 
 use super::Builder;
-use super::opening::raised;
 use crate::entry::{Field, Method, Row, Variable};
 use grammar::event::TypeWord;
 use values::types::{CellRow, Lineage};
 
 impl Builder {
+    // What is declared next belongs to this row.
+    fn begin(&mut self, lineage: Lineage, number: u8)
+        ensures { self.new ≡ begun self.old lineage number }
+    {
+        self.tally.owner = CellRow { lineage, number };
+        self.tally.in_method = false;
+    }
+
     pub(crate) fn class(&mut self, name: usize, parent: usize)
         ensures { self.new ≡ class_added self.old name parent }
     {
         self.outline.classes.push(Row {
             name,
             parent,
-            first: 0,
-            second: 0,
+            ..Row::default()
         });
-        let number = raised(31, self.tally.classes);
-        self.tally.classes = number;
-        self.tally.owner = CellRow {
-            lineage: Lineage::Class,
-            number,
-        };
-        self.tally.in_method = false;
+        self.tally.classes = self.tally.classes.saturating_add(1);
+        self.begin(Lineage::Class, self.tally.classes);
     }
 
     pub(crate) fn relationship(&mut self, row: Row)
         ensures { self.new ≡ relationship_added self.old row.name row.parent row.first row.second }
     {
         self.outline.relationships.push(row);
-        let number = raised(31, self.tally.relationships);
-        self.tally.relationships = number;
-        self.tally.owner = CellRow {
-            lineage: Lineage::Relationship,
-            number,
-        };
-        self.tally.in_method = false;
+        self.tally.relationships = self.tally.relationships.saturating_add(1);
+        self.begin(Lineage::Relationship, self.tally.relationships);
     }
 
     pub(crate) fn field(&mut self, typed: TypeWord, name: usize)
@@ -47,7 +43,7 @@ impl Builder {
             typed,
             name,
         });
-        self.tally.fields = raised(128, self.tally.fields);
+        self.tally.fields = self.tally.fields.saturating_add(1);
     }
 
     // The number of the method that was read last.
@@ -66,7 +62,7 @@ impl Builder {
             typed,
             name,
         });
-        self.tally.locals = raised(12, self.tally.locals);
+        self.tally.locals = self.tally.locals.saturating_add(1);
         self.tally.most = self.tally.most.max(self.tally.locals);
     }
 
@@ -85,7 +81,7 @@ impl Builder {
             typed,
             name: parameter,
         });
-        self.tally.methods = raised(64, self.tally.methods);
+        self.tally.methods = self.tally.methods.saturating_add(1);
         self.tally.in_method = true;
         self.tally.locals = 2;
         self.tally.most = self.tally.most.max(2);

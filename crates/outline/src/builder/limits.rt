@@ -1,58 +1,12 @@
 ghost use Rattle.std.specs.Prelude.{◌≡◌};
-ghost use Rattle.outline.specs.Built.{Empty, limit_of};
+ghost use Rattle.outline.specs.Built.{Empty, passes, limit_of};
 
 use super::{Builder, Tally};
 use crate::contents::Outline;
-use crate::entry::{Block, Field, Method, Node, Open, Row, Shape, Variable};
-use grammar::event::TypeWord;
+use crate::limit::{
+    CLASSES, FIELDS, HEIGHT, LIMITS, Limit, METHODS, NODES, RELATIONSHIPS, VARIABLES,
+};
 use tables::table::Table;
-use values::types::{CellRow, Lineage};
-
-// What stands in memory that is not used yet.
-const OBJECT: CellRow = CellRow {
-    lineage: Lineage::Class,
-    number: 0,
-};
-
-const ROW: Row = Row {
-    name: 0,
-    parent: 0,
-    first: 0,
-    second: 0,
-};
-
-const FIELD: Field = Field {
-    owner: OBJECT,
-    typed: TypeWord::Boolean,
-    name: 0,
-};
-
-const METHOD: Method = Method {
-    owner: OBJECT,
-    result: TypeWord::Boolean,
-    name: 0,
-};
-
-const VARIABLE: Variable = Variable {
-    method: 0,
-    typed: TypeWord::Boolean,
-    name: 0,
-};
-
-const NODE: Node = Node {
-    shape: Shape::Null,
-    method: 0,
-    name: 0,
-    place: 0,
-    left: 0,
-    right: 0,
-};
-
-const BLOCK: Block = Block {
-    branch: 0,
-    otherwise: 0,
-    joined: 0,
-};
 
 impl Builder {
     // Before the first event.
@@ -61,63 +15,47 @@ impl Builder {
     {
         Builder {
             outline: Outline {
-                classes: Table::new(ROW),
-                relationships: Table::new(ROW),
-                fields: Table::new(FIELD),
-                methods: Table::new(METHOD),
-                variables: Table::new(VARIABLE),
-                nodes: Table::new(NODE),
-                blocks: Table::new(BLOCK),
+                classes: Table::new(),
+                relationships: Table::new(),
+                fields: Table::new(),
+                methods: Table::new(),
+                variables: Table::new(),
+                nodes: Table::new(),
+                blocks: Table::new(),
             },
-            opened: Table::new(Open::held(0, 0)),
-            tally: Tally {
-                classes: 0,
-                relationships: 0,
-                fields: 0,
-                methods: 0,
-                locals: 0,
-                most: 0,
-                nodes: 0,
-                tallest: 0,
-                owner: OBJECT,
-                in_method: false,
-            },
+            opened: Table::new(),
+            tally: Tally::default(),
         }
     }
 
-    // The first limit that is passed, by its number.
-    pub(crate) fn limit(&self) -> Option<u8>
-        ensures { result ≡ limit_of self.now.tally }
+    // Whether the counts pass a limit.
+    fn passes(&self, limit: Limit) -> bool
+        ensures { result ≡ passes self.now.tally limit }
     {
         let tally = self.tally;
-        if tally.classes > 31 {
-            Some(1)
-        } else if tally.relationships > 31 {
-            Some(2)
-        } else if tally.fields > 128 {
-            Some(3)
-        } else if tally.methods > 64 {
-            Some(4)
-        } else if tally.most > 12 {
-            Some(5)
-        } else if tally.nodes > 2048 {
-            Some(6)
-        } else if tally.tallest > 16 {
-            Some(7)
-        } else {
-            None
+        match limit {
+            Limit::Classes => usize::from(tally.classes) > CLASSES,
+            Limit::Relationships => usize::from(tally.relationships) > RELATIONSHIPS,
+            Limit::Fields => usize::from(tally.fields) > FIELDS,
+            Limit::Methods => usize::from(tally.methods) > METHODS,
+            Limit::Variables => usize::from(tally.most) > VARIABLES,
+            Limit::Nodes => usize::from(tally.nodes) > NODES,
+            Limit::Height => usize::from(tally.tallest) > HEIGHT,
         }
+    }
+
+    // The first limit that is passed.
+    pub(crate) fn limit(&self) -> Option<Limit>
+        ensures { result ≡ limit_of self.now.tally }
+    {
+        LIMITS.iter().copied().find(|limit| self.passes(*limit))
     }
 
     // The tables alone.
     pub(crate) fn into_outline(self) -> Outline
         ensures { result ≡ self.outline }
     {
-        let Builder {
-            outline,
-            opened: _,
-            tally: _,
-        } = self;
+        let Builder { outline, .. } = self;
         outline
     }
 }

@@ -1,20 +1,18 @@
 ghost use Rattle.std.specs.Prelude.{◌≡◌};
-ghost use Rattle.tables.specs.Listed.{listed, newest};
-ghost use Rattle.outline.specs.Building.{node_added, block_added, leaf_added, unary_added, binary_added, bracketed, variable_targeted, member_targeted, assigning, assigned_in, statement_added, branch_added, parting, joined_in};
+ghost use Rattle.outline.specs.Building.{node_added, block_added, leaf_added, unary_added, binary_added, bracketed, variable_targeted, member_targeted, assigned_at, statement_added, branch_added, parting, joined_at};
 
 use super::Builder;
-use super::opening::above;
-use crate::entry::{Block, Node, Open, Shape};
+use super::pending::{Open, Pending};
+use crate::entry::{Block, Node, Shape};
 
 impl Builder {
-    fn node(&mut self, shape: Shape, name: usize, place: usize, left: usize, right: usize)
-        ensures { self.new ≡ node_added self.old shape name place left right }
+    fn node(&mut self, shape: Shape, place: usize, left: Option<usize>, right: Option<usize>)
+        ensures { self.new ≡ node_added self.old shape place left right }
     {
         let method = self.last_method();
         self.outline.nodes.push(Node {
             shape,
             method,
-            name,
             place,
             left,
             right,
@@ -22,38 +20,35 @@ impl Builder {
     }
 
     // A node without parts.
-    pub(crate) fn leaf(&mut self, shape: Shape, name: usize, place: usize)
-        ensures { self.new ≡ leaf_added self.old shape name place }
+    pub(crate) fn leaf(&mut self, shape: Shape, place: usize)
+        ensures { self.new ≡ leaf_added self.old shape place }
     {
         let node = self.next_node();
-        self.node(shape, name, place, 0, 0);
+        self.node(shape, place, None, None);
         self.open(Open::held(node, 1));
         self.count();
     }
 
     // A node with one part.
-    pub(crate) fn unary(&mut self, shape: Shape, name: usize, place: usize)
-        ensures { self.new ≡ unary_added self.old shape name place }
+    pub(crate) fn unary(&mut self, shape: Shape, place: usize)
+        ensures { self.new ≡ unary_added self.old shape place }
     {
         let node = self.next_node();
-        let part = self.top();
-        self.close();
-        self.node(shape, name, place, part.node, 0);
-        self.open(Open::held(node, above(part.height)));
+        let part = self.take();
+        self.node(shape, place, part.node(), None);
+        self.open(Open::held(node, part.height.saturating_add(1)));
         self.count();
     }
 
     // A node with two parts.
-    pub(crate) fn binary(&mut self, shape: Shape, name: usize, place: usize)
-        ensures { self.new ≡ binary_added self.old shape name place }
+    pub(crate) fn binary(&mut self, shape: Shape, place: usize)
+        ensures { self.new ≡ binary_added self.old shape place }
     {
         let node = self.next_node();
-        let right = self.top();
-        self.close();
-        let left = self.top();
-        self.close();
-        self.node(shape, name, place, left.node, right.node);
-        self.open(Open::held(node, above(left.height.max(right.height))));
+        let right = self.take();
+        let left = self.take();
+        self.node(shape, place, left.node(), right.node());
+        self.open(Open::held(node, left.height.max(right.height).saturating_add(1)));
         self.count();
     }
 
@@ -62,7 +57,7 @@ impl Builder {
         ensures { self.new ≡ bracketed self.old }
     {
         if let Some(mut part) = self.opened.last() {
-            part.height = above(part.height);
+            part.height = part.height.saturating_add(1);
             self.replace(part);
         }
     }
@@ -71,13 +66,7 @@ impl Builder {
     pub(crate) fn to_variable(&mut self, place: usize)
         ensures { self.new ≡ variable_targeted self.old place }
     {
-        self.open(Open {
-            member: false,
-            node: 0,
-            name: place,
-            place,
-            height: 0,
-        });
+        self.open(Open::to_variable(place));
         self.count();
     }
 
@@ -86,40 +75,26 @@ impl Builder {
         ensures { self.new ≡ member_targeted self.old name place }
     {
         if let Some(object) = self.opened.last() {
-            self.replace(Open {
-                member: true,
-                node: object.node,
-                name,
-                place,
-                height: object.height,
-            });
+            self.replace(object.to_member(name, place));
         }
         self.count();
     }
 
-    // An assignment with its value.
-    fn assign(&mut self, value: Open)
-        ensures { self.new ≡ assigning self.old value }
-    {
-        let node = self.next_node();
-        self.close();
-        let target = self.top();
-        self.close();
-        let shape = if target.member {
-            Shape::SetMember
-        } else {
-            Shape::SetVariable
-        };
-        self.node(shape, target.name, target.place, target.node, value.node);
-        self.open(Open::held(node, above(target.height.max(value.height))));
-    }
-
     // The value of an assignment is complete.
     pub(crate) fn assigned(&mut self)
-        ensures { self.new ≡ assigned_in (newest (listed self.old.opened)) self.old }
+        ensures { self.new ≡ assigned_at self.old }
     {
-        if let Some(value) = self.opened.last() {
-            self.assign(value);
+        let node = self.next_node();
+        let value = self.take();
+        let target = self.take();
+        if let Pending::Assignment {
+            shape,
+            place,
+            object,
+        } = target.pending
+        {
+            self.node(shape, place, object, value.node());
+            self.open(Open::held(node, target.height.max(value.height).saturating_add(1)));
         }
     }
 
@@ -127,11 +102,10 @@ impl Builder {
     pub(crate) fn statement(&mut self, shape: Shape, place: usize)
         ensures { self.new ≡ statement_added self.old shape place }
     {
-        let part = self.top();
-        self.close();
-        self.node(shape, 0, place, part.node, 0);
+        let part = self.take();
+        self.node(shape, place, part.node(), None);
         self.count();
-        self.settle(above(part.height));
+        self.settle(part.height.saturating_add(1));
     }
 
     // A branch, its condition complete.
@@ -139,10 +113,9 @@ impl Builder {
         ensures { self.new ≡ branch_added self.old place }
     {
         let node = self.next_node();
-        let condition = self.top();
-        self.close();
-        self.node(Shape::Branch, 0, place, condition.node, 0);
-        self.open(Open::held(node, condition.height));
+        let condition = self.take();
+        self.node(Shape::Branch, place, condition.node(), None);
+        self.open(Open::branch(node, condition.height));
         self.count();
     }
 
@@ -150,9 +123,8 @@ impl Builder {
     pub(crate) fn otherwise(&mut self)
         ensures { self.new ≡ parting self.old }
     {
-        if let Some(mut branch) = self.opened.last() {
-            branch.name = self.next_node();
-            self.replace(branch);
+        if let Some(branch) = self.opened.last() {
+            self.replace(branch.parted(self.next_node()));
         }
     }
 
@@ -170,12 +142,12 @@ impl Builder {
 
     // The second block of a branch is complete.
     pub(crate) fn joined(&mut self)
-        ensures { self.new ≡ joined_in (newest (listed self.old.opened)) self.old }
+        ensures { self.new ≡ joined_at self.old }
     {
-        if let Some(branch) = self.opened.last() {
-            self.close();
-            self.block(branch.node, branch.name);
-            self.settle(above(branch.height));
+        let Open { pending, height } = self.take();
+        if let Pending::Second { branch, otherwise } = pending {
+            self.block(branch, otherwise);
+            self.settle(height.saturating_add(1));
         }
     }
 }

@@ -1,55 +1,15 @@
-ghost use Rattle.std.specs.Prelude.{◌≡◌, ◌<◌};
-ghost use Rattle.outline.specs.Building.{raised, counted, opening, closing, top_of, next_node, settling};
-ghost use Rattle.outline.specs.Drafts.{held, above};
+ghost use Rattle.std.specs.Prelude.{◌≡◌};
+ghost use Rattle.outline.specs.Building.{counted, opening, closing, top_of, next_node, settling};
 
 use super::Builder;
-use crate::entry::Open;
-
-// The greatest height that is told from greater ones.
-const HEIGHTS: u8 = 17;
-
-// One above, as far as heights are told.
-pub(crate) fn above(height: u8) -> u8
-    ensures { result ≡ above height }
-{
-    if height < HEIGHTS {
-        height + 1
-    } else {
-        HEIGHTS
-    }
-}
-
-// One more, but no further than one above the limit.
-pub(crate) fn raised(limit: u8, n: u8) -> u8
-    requires { limit < 255 }
-    ensures { result ≡ raised limit n }
-{
-    if n <= limit { n + 1 } else { n }
-}
-
-impl Open {
-    // The value of a node.
-    pub(crate) fn held(node: usize, height: u8) -> Open
-        ensures { result ≡ held node height }
-    {
-        Open {
-            member: false,
-            node,
-            name: 0,
-            place: 0,
-            height,
-        }
-    }
-}
+use super::pending::Open;
 
 impl Builder {
     // One node more.
     pub(crate) fn count(&mut self)
         ensures { self.new ≡ counted self.old }
     {
-        if self.tally.nodes <= 2048 {
-            self.tally.nodes += 1;
-        }
+        self.tally.nodes = self.tally.nodes.saturating_add(1);
     }
 
     // How many nodes there are, which is the number of the next.
@@ -63,10 +23,17 @@ impl Builder {
     pub(crate) fn top(&self) -> Open
         ensures { result ≡ top_of self.now }
     {
-        match self.opened.last() {
-            Some(open) => open,
-            None => Open::held(0, 0),
-        }
+        self.opened.last().unwrap_or(Open::held(0, 0))
+    }
+
+    // Takes what was opened last.
+    pub(crate) fn take(&mut self) -> Open
+        ensures top { result ≡ top_of self.old }
+        ensures closed { self.new ≡ closing self.old }
+    {
+        let open = self.top();
+        self.close();
+        open
     }
 
     pub(crate) fn open(&mut self, open: Open)

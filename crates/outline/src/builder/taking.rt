@@ -1,38 +1,33 @@
 ghost use Rattle.std.specs.Prelude.{◌≡◌};
 ghost use Rattle.outline.specs.Building.{built, declared_in};
-ghost use Rattle.outline.specs.Drafts.{value_shape, doing_shape, side_shape};
+ghost use Rattle.outline.specs.Drafts.{value_shape, side_shape};
 
 use super::Builder;
 use crate::entry::{Row, Shape};
 use grammar::event::{End, Event, Literal, Pairing, TypeWord};
 use grammar::sink::Sink;
 
-fn literal_shape(value: Literal) -> Shape
-    ensures { result ≡ value_shape value }
-{
-    match value {
-        Literal::True => Shape::True,
-        Literal::False => Shape::False,
-        Literal::Null => Shape::Null,
-        Literal::This => Shape::This,
+impl From<Literal> for Shape {
+    ghost from_gives = { λ v s. s ≡ value_shape v };
+
+    fn from(value: Literal) -> Shape {
+        match value {
+            Literal::True => Shape::True,
+            Literal::False => Shape::False,
+            Literal::Null => Shape::Null,
+            Literal::This => Shape::This,
+        }
     }
 }
 
-fn pairing_shape(pairing: Pairing) -> Shape
-    ensures { result ≡ doing_shape pairing }
-{
-    match pairing {
-        Pairing::Add => Shape::Add,
-        Pairing::Rem => Shape::Rem,
-    }
-}
+impl From<End> for Shape {
+    ghost from_gives = { λ e s. s ≡ side_shape e };
 
-fn end_shape(end: End) -> Shape
-    ensures { result ≡ side_shape end }
-{
-    match end {
-        End::From => Shape::From,
-        End::To => Shape::To,
+    fn from(end: End) -> Shape {
+        match end {
+            End::From => Shape::From,
+            End::To => Shape::To,
+        }
     }
 }
 
@@ -52,6 +47,7 @@ impl Builder {
 impl Sink for Builder {
     ghost after = { built };
 
+    #[tactic(auto, unfolding(crate::specs::Building::built))]
     fn put(&mut self, event: Event) {
         match event {
             Event::Class { name, parent } => self.class(name, parent),
@@ -73,16 +69,23 @@ impl Sink for Builder {
                 typed,
                 parameter,
             } => self.method(result, name, typed, parameter),
-            Event::Variable { place } => self.leaf(Shape::Variable, place, place),
-            Event::Literal { value, place } => self.leaf(literal_shape(value), 0, place),
-            Event::New { class, place } => self.leaf(Shape::New, class, place),
-            Event::Pair { pairing, place } => self.binary(pairing_shape(pairing), place, place),
-            Event::Member { name, place } => self.unary(Shape::Member, name, place),
-            Event::Call { name, place } => self.binary(Shape::Call, name, place),
-            Event::Instances { name, place } => self.unary(Shape::Instances, name, place),
-            Event::End { end, place } => self.unary(end_shape(end), 0, place),
+            Event::Variable { place } => self.leaf(Shape::Variable(place), place),
+            Event::Literal { value, place } => self.leaf(value.into(), place),
+            Event::New { class, place } => self.leaf(Shape::New(class), place),
+            Event::Pair {
+                pairing: Pairing::Add,
+                place,
+            } => self.binary(Shape::Add(place), place),
+            Event::Pair {
+                pairing: Pairing::Rem,
+                place,
+            } => self.binary(Shape::Rem(place), place),
+            Event::Member { name, place } => self.unary(Shape::Member(name), place),
+            Event::Call { name, place } => self.binary(Shape::Call(name), place),
+            Event::Instances { name, place } => self.unary(Shape::Instances(name), place),
+            Event::End { end, place } => self.unary(end.into(), place),
             Event::Bracket => self.bracket(),
-            Event::Equal { place } => self.binary(Shape::Equal, 0, place),
+            Event::Equal { place } => self.binary(Shape::Equal, place),
             Event::ToVariable { place } => self.to_variable(place),
             Event::ToMember { name, place } => self.to_member(name, place),
             Event::Assigned => self.assigned(),

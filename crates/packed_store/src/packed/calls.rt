@@ -1,29 +1,45 @@
-ghost use Rattle.std.specs.Prelude.{◌≡◌, [], replicate, Err, MatchResult};
+ghost use Rattle.std.specs.Prelude.{◌≡◌, ◌+◌, ◌<◌, ◌≤◌, ◌++◌, [], length, replicate, Err, IfOk, MatchResult};
 ghost use Rattle.values.specs.declared.value.Value.TheVariants.{Null};
 ghost use Rattle.store.specs.Model.{field_at};
 ghost use Rattle.packed_store.specs.Packed.{Slot, packed, packed_model};
 ghost use Rattle.packed_store.specs.PackedSpans.{packed_lawful};
 
-use super::{PackedStore, Span};
-use store::Store;
+use super::{PackedStore, SLOT_LIMIT, Span};
+use arrayvec::ArrayVec;
 use store::cell::{Absent, Head, MakeRefusal};
+use store::{CELL_LIMIT, FIELD_LIMIT, Store};
 use values::value::Value;
 
-fn blank() -> [Value; 512]
-    ensures { result ≡ replicate 512 Null }
+impl Default for Span {
+    fn default() -> Span {
+        Span {
+            head: Head::Object { class: 0 },
+            start: 0,
+            count: 0,
+        }
+    }
+}
+
+// Appends that many null slots.
+fn append_nulls(slots: &mut ArrayVec<Value, SLOT_LIMIT>, count: u8)
+    requires few { count ≤ 8 }
+    requires room { length slots.old.items + count ≤ 512 }
+    ensures { slots.new.items ≡ slots.old.items ++ replicate count Null }
 {
-    [Value::Null; 512]
+    let nulls = [Value::Null; FIELD_LIMIT];
+    slots
+        .try_extend_from_slice(&nulls[..count as usize])
+        .unwrap();
 }
 
 impl PackedStore {
     // Where a field's slot lies.
+    #[tactic(auto, using(crate::proofs::Spans::answers))]
     fn slot(&self, cell: u8, field: u8) -> Result<usize, Absent>
-        ensures { MatchResult result (Slot self.now cell field) (λ e. field_at (packed_model self.now) cell field ≡ Err e) }
+        ensures place { MatchResult result (Slot self.now cell field) (λ e. field_at (packed_model self.now) cell field ≡ Err e) }
+        ensures within { IfOk result (λ slot. slot < length self.now.slots.items) }
     {
-        if cell as usize >= self.used {
-            return Err(Absent::Cell);
-        }
-        let span = self.spans[cell as usize];
+        let span = self.spans.get(cell as usize).ok_or(Absent::Cell)?;
         if field >= span.count {
             return Err(Absent::Field);
         }
@@ -31,39 +47,27 @@ impl PackedStore {
     }
 }
 
+#[tactic(auto, using(crate::proofs::Spans::answers))]
 impl Store for PackedStore {
     ghost model = { packed_model };
 
     ghost lawful = { packed_lawful };
 
     fn clear(&mut self) {
-        let slots = blank();
-        self.used = 0;
-        self.filled = 0;
-        self.slots = slots;
+        self.spans.clear();
+        self.slots.clear();
     }
 
     fn make(&mut self, head: Head, fields: u8) -> Result<u8, MakeRefusal> {
-        if fields > 8 {
-            return Err(MakeRefusal::Fields);
-        }
-        if self.used >= 128 {
-            return Err(MakeRefusal::Cells);
-        }
-        let start = self.filled;
-        let end = start + fields as usize;
-        if end > 512 {
-            return Err(MakeRefusal::Slots);
-        }
-        let cell = self.used;
-        self.spans[cell] = Span {
+        let cell = self.next_cell(fields)?;
+        let start = self.slots.len();
+        self.spans.push(Span {
             head,
             start,
             count: fields,
-        };
-        self.used = cell + 1;
-        self.filled = end;
-        Ok(cell as u8)
+        });
+        append_nulls(&mut self.slots, fields);
+        Ok(cell)
     }
 
     fn put(&mut self, cell: u8, field: u8, value: Value) -> Result<(), Absent> {
@@ -73,17 +77,11 @@ impl Store for PackedStore {
     }
 
     fn head(&self, cell: u8) -> Option<Head> {
-        if cell as usize >= self.used {
-            return None;
-        }
-        Some(self.spans[cell as usize].head)
+        self.spans.get(cell as usize).map(|span| span.head)
     }
 
     fn fields(&self, cell: u8) -> Option<u8> {
-        if cell as usize >= self.used {
-            return None;
-        }
-        Some(self.spans[cell as usize].count)
+        self.spans.get(cell as usize).map(|span| span.count)
     }
 
     fn value(&self, cell: u8, field: u8) -> Result<Value, Absent> {
@@ -92,23 +90,23 @@ impl Store for PackedStore {
     }
 
     fn cells(&self) -> u8 {
-        self.used as u8
+        self.spans.len() as u8
     }
 
     fn slots(&self) -> u16 {
-        self.filled as u16
+        self.slots.len() as u16
     }
 
     fn cell_limit(&self) -> u8 {
-        128
+        CELL_LIMIT as u8
     }
 
     fn slot_limit(&self) -> u16 {
-        512
+        SLOT_LIMIT as u16
     }
 
     fn charge(&self, fields: u8) -> u8 {
-        fields.min(8)
+        fields.min(FIELD_LIMIT as u8)
     }
 }
 
@@ -117,17 +115,9 @@ impl PackedStore {
     pub fn new() -> PackedStore
         ensures { packed_model result ≡ packed [] }
     {
-        let unused = Span {
-            head: Head::Object { class: 0 },
-            start: 0,
-            count: 0,
-        };
-        let slots = blank();
         PackedStore {
-            spans: [unused; 128],
-            used: 0,
-            slots,
-            filled: 0,
+            spans: ArrayVec::new(),
+            slots: ArrayVec::new(),
         }
     }
 }

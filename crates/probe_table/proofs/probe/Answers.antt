@@ -5,4 +5,4 @@ use Rattle.probe_table.proofs.probe.Goals as goal
 
 pub returns : goal.returns
 unfolding along start
-returns c = record { place = refl; below = along_below c.args.relationship c.args.from c.args.to c.args.k }
+returns c = record { place = refl; below = along_below c.args.link.relationship c.args.link.from c.args.link.to c.args.k }

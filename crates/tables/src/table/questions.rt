@@ -5,29 +5,34 @@ ghost use Rattle.tables.specs.Listed.{listed, newest};
 use super::Table;
 
 impl<T: Copy, const N: usize> Table<T, N> {
+    // The items, in their order.
+    #[tactic(auto, unfolding(crate::specs::Listed::listed))]
+    pub fn as_slice(&self) -> &[T]
+        ensures { result.now ≡ listed self.now }
+    {
+        self.items.as_slice()
+    }
+
+    #[tactic(auto, unfolding(crate::specs::Listed::listed))]
     pub fn len(&self) -> usize
         ensures { result ≡ length (listed self.now) }
     {
-        self.len
+        self.items.len()
     }
 
     // The item at place i, if there is one.
+    #[tactic(auto, unfolding(crate::specs::Listed::listed))]
     pub fn get(&self, i: usize) -> Option<T>
         ensures { result ≡ slice_get (listed self.now) i }
     {
-        if i >= self.len {
-            return None;
-        }
-        Some(self.items[i])
+        self.as_slice().get(i).copied()
     }
 
     // The item that was added last, if there is one.
+    #[tactic(auto, unfolding(crate::specs::Listed::listed))]
     pub fn last(&self) -> Option<T>
         ensures { result ≡ newest (listed self.now) }
     {
-        if self.len == 0 {
-            return None;
-        }
-        Some(self.items[self.len - 1])
+        self.as_slice().last().copied()
     }
 }

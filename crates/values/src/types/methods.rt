@@ -1,38 +1,22 @@
-ghost use Rattle.std.specs.Prelude.{◌≡◌, Decides};
+ghost use Rattle.std.specs.Prelude.{◌≡◌};
 ghost use Rattle.values.specs.Admits.{Initially, initial_of};
 ghost use Rattle.values.specs.Types.{boolean, null_type, row_type, set_type};
 
-use super::{Kind, Lineage, Ty};
+use super::{CellRow, Kind, Lineage, Ty};
 use crate::value::Value;
 use cells::CellSet;
 
-impl Lineage {
-    pub fn same(self, other: Lineage) -> bool
-        ensures { Decides result (self ≡ other) }
+impl CellRow {
+    // A row of a line, by its number.
+    pub const fn new(lineage: Lineage, number: u8) -> CellRow
+        ensures { result ≡ record { lineage = lineage; number = number } }
     {
-        match (self, other) {
-            (Lineage::Class, Lineage::Class) => true,
-            (Lineage::Relationship, Lineage::Relationship) => true,
-            _ => false,
-        }
-    }
-}
-
-impl Kind {
-    pub fn same(self, other: Kind) -> bool
-        ensures { Decides result (self ≡ other) }
-    {
-        match (self, other) {
-            (Kind::Boolean, Kind::Boolean) => true,
-            (Kind::Null, Kind::Null) => true,
-            (Kind::Row(a), Kind::Row(b)) => a.same(b),
-            (Kind::Set(a), Kind::Set(b)) => a.same(b),
-            _ => false,
-        }
+        CellRow { lineage, number }
     }
 }
 
 impl Ty {
+    #[tactic(auto, using(crate::proofs::SameType::ty_same))]
     pub fn boolean() -> Ty
         ensures { result ≡ boolean }
     {
@@ -43,6 +27,7 @@ impl Ty {
     }
 
     // The type of the literal null.
+    #[tactic(auto, using(crate::proofs::SameType::ty_same))]
     pub fn null() -> Ty
         ensures { result ≡ null_type }
     {
@@ -53,6 +38,7 @@ impl Ty {
     }
 
     // A row of a line.
+    #[tactic(auto, using(crate::proofs::SameType::ty_same))]
     pub fn of_row(lineage: Lineage, row: u8) -> Ty
         ensures { result ≡ row_type lineage row }
     {
@@ -63,6 +49,7 @@ impl Ty {
     }
 
     // The sets of a row.
+    #[tactic(auto, using(crate::proofs::SameType::ty_same))]
     pub fn set_of(lineage: Lineage, row: u8) -> Ty
         ensures { result ≡ set_type lineage row }
     {
@@ -85,22 +72,24 @@ impl Ty {
         self.row
     }
 
-    pub fn same(self, other: Ty) -> bool
-        ensures { Decides result (self ≡ other) }
-    {
-        other.kind.same(self.kind) && self.row == other.row
-    }
-
     // What a variable or field of this type begins with: false, null or the empty set.
+    #[tactic(auto, using(crate::proofs::Admitting::initially))]
     pub fn initial(self) -> Value
         ensures value { result ≡ initial_of self.kind }
         ensures admitted { Initially self result }
     {
         match self.kind {
             Kind::Boolean => Value::Truth(false),
-            Kind::Null => Value::Null,
-            Kind::Row(_) => Value::Null,
+            Kind::Null | Kind::Row(_) => Value::Null,
             Kind::Set(_) => Value::Set(CellSet::empty()),
         }
+    }
+}
+
+impl Default for Ty {
+    ghost is_default = { λ t. t ≡ boolean };
+
+    fn default() -> Ty {
+        Ty::boolean()
     }
 }

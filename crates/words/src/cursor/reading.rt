@@ -1,8 +1,9 @@
 ghost use Rattle.std.specs.Prelude.{◌≡◌};
+ghost use Rattle.std.specs.Iterator.{item_count};
 ghost use Rattle.words.specs.Words.{words, unread, Reads};
 
 use super::{Cursor, Word};
-use crate::bytes::{Separators, run_of};
+use crate::bytes::separators;
 use crate::spelling::{Front, front_of};
 
 impl<'a> Cursor<'a> {
@@ -12,21 +13,25 @@ impl<'a> Cursor<'a> {
     {
         Cursor { text, at: 0 }
     }
+}
+
+impl<'a> Iterator for Cursor<'a> {
+    type Item = Word<'a>;
+
+    ghost next_gives = { Reads };
+
+    ghost remaining = { item_count unread };
 
     // Hands out the next word; none at the text's end.
-    pub fn next(&mut self) -> Option<Word<'a>>
-        ensures { Reads self.old result self.new }
-    {
+    fn next(&mut self) -> Option<Word<'a>> {
         let text = self.text;
-        let place = self.at + run_of::<Separators>(&text[self.at..]);
+        let place = self.at + separators(&text[self.at..]);
         let rest = &text[place..];
-        let Some(Front { kind, size }) = front_of(rest) else {
-            return None;
-        };
+        let Front { kind, size } = front_of(rest)?;
         self.at = place + size;
         Some(Word {
             kind,
-            bytes: &rest[0..size],
+            bytes: &rest[..size],
             place,
         })
     }

@@ -1,23 +1,9 @@
-use Rattle.std.proofs.Common.{◌+◌, sym, ◌∙◌, arith}
-use Rattle.std.proofs.lemmas.Bool.{eq-eqb, eqb-true}
-use Rattle.cells.proofs.Digits.{same_bits}
-use Rattle.cells.proofs.Words.{has_low, has_high, same_words}
+use Rattle.std.proofs.Common.{◌≡◌, Decides, rules, arith}
+use Rattle.cells.proofs.Laws.{same_sets}
 use Rattle.cells.proofs.CellSet.same_members.Goals as goal
 
-pub returns-then-self-other : goal.returns-then-self-other
-returns-then-self-other c =
-    let s = c.args.self in
-    let t = c.args.other in
-    record {
-      equal = λ e. same_words s t c.if-self-other.true (eqb-true s.high t.high e);
-      agree = λ same. eq-eqb s.high t.high (same_bits 64 s.high t.high (omega arith) (omega arith) (λ k l. sym (has_high s k l) ∙ same (64 + k) ∙ has_high t k l));
-    }
-
-pub returns-else-self-other : goal.returns-else-self-other
-returns-else-self-other c =
-    let s = c.args.self in
-    let t = c.args.other in
-    record {
-      equal = λ e. absurd (c.if-self-other.false (eqb-true s.low t.low e));
-      agree = λ same. eq-eqb s.low t.low (same_bits 64 s.low t.low (omega arith) (omega arith) (λ k l. sym (has_low s k l) ∙ same k ∙ has_low t k l));
-    }
+pub returns-clause-agree : goal.returns-clause-agree
+returns-clause-agree c =
+    λ same.
+    let d : Decides c.eq.result (c.args.self ≡ c.args.other) = search rules in
+    d.1 (same_sets c.args.self c.args.other (record { low_fits = omega arith; high_fits = omega arith }) (record { low_fits = omega arith; high_fits = omega arith }) same)

@@ -1,5 +1,6 @@
-use Rattle.std.proofs.Common.{refl, ◌∙◌, arith, length-set}
+use Rattle.std.proofs.Common.{refl, ◌∙◌, arith, length-set, subst}
 use Rattle.probe_table.specs.declared.place.Place.TheVariants.{Held}
+use Rattle.probe_table.specs.Probing.{Open}
 use Rattle.probe_table.proofs.Probing.{grown_place, used_set, reached_put}
 use Rattle.probe_table.proofs.ProbeTable.insert.Goals as goal
 
@@ -12,7 +13,7 @@ bounds-self-place c = omega arith
 pub invariant_of-self : goal.invariant_of-self
 invariant_of-self c =
     let self = c.args.self.now in
-    let to = c.room-place.ensures in
+    let to = subst (λ l. Open self.places l.relationship l.from l.to c.room-place.result) c.link.ensures c.room-place.ensures in
     let more = grown_place self.places c.room-place.result (omega arith) c.args.row to.vacant c.requires.absent self.differ self.little c.requires.fit in
     record {
       whole = length-set self.places c.room-place.result _ ∙ self.whole;
@@ -28,7 +29,7 @@ invariant_of-self c =
 pub returns : goal.returns
 returns c =
     let self = c.args.self.now in
-    let to = c.room-place.ensures in
+    let to = subst (λ l. Open self.places l.relationship l.from l.to c.room-place.result) c.link.ensures c.room-place.ensures in
     record {
       added = (grown_place self.places c.room-place.result (omega arith) c.args.row to.vacant c.requires.absent self.differ self.little c.requires.fit).added;
       spends = refl;

@@ -1,37 +1,31 @@
-use Rattle.std.proofs.Common.{◌≡◌, ℕ, false, sym, ap, ◌∙◌, inl, inr, below_more}
-use Rattle.probe_table.specs.declared.place.Place.TheVariants.{Held}
-use Rattle.probe_table.specs.Probing.{holds, is_free, place_at, along}
-use Rattle.probe_table.proofs.Probing.{not_met, row_is}
+use Rattle.std.proofs.Common.{◌≡◌, Some, None, sym, ap, ◌∙◌, inl, inr, arith, rules}
+use Rattle.probe_table.specs.Probing.{row_in, ends, is_free, place_at}
+use Rattle.probe_table.proofs.Probing.{not_met, first_below, ends_past, ends_free, ends_held}
 use Rattle.probe_table.proofs.ProbeTable.position.Goals as goal
-use Rattle.probe_table.proofs.ProbeTable.position.Goals.{in-Dropped, in-Held+else-joins}
 
-pub loop-k-preserved : goal.loop-k-preserved
-loop-k-preserved c =
-    let places = c.args.self.now.places in
-    let r = c.args.relationship in
-    let f = c.args.from in
-    let t = c.args.to in
-    let Unmet : ℕ → Type 0 = λ i. holds (place_at places (along r f t i)) r f t ≡ false in
-    let at_place = ap (λ p. holds (place_at places p) r f t) (sym c.probe-place.ensures.place) in
-    elim c.match-here.branch [
-      | in-Dropped w ↦ below_more Unmet c.loop-k.k c.loop-k.invariant (at_place ∙ ap (λ x. holds x r f t) w.in-Dropped.is)
-      | in-Held+else-joins w ↦
-          below_more Unmet c.loop-k.k c.loop-k.invariant (at_place ∙ ap (λ x. holds x r f t) w.in-Held.is ∙ sym w.if-joins.ensures)
-    ]
-
-pub returns-in-Free : goal.returns-in-Free
-returns-in-Free c =
+pub returns-in_err-place : goal.returns-in_err-place
+returns-in_err-place c =
     let self = c.args.self.now in
-    not_met self.places self.whole self.reached c.args.relationship c.args.from c.args.to c.loop-k.k c.loop-k.invariant
-    (inl (ap (λ p. is_free (place_at self.places p)) (sym c.probe-place.ensures.place) ∙ ap is_free c.in-Free.is))
+    let link = c.args.link in
+    let none = c.in_err-place.ensures (ends link.relationship link.from link.to) (λ place answer e. search rules) in
+    let absent = not_met self.places self.whole self.reached link.relationship link.from link.to 512 (λ i l. ends_past link.relationship link.from link.to _ (none i l)) (inr (omega arith)) in
+    search (rules, absent)
 
-pub returns-then-joins : goal.returns-then-joins
-returns-then-joins c = (
-  c.probe-place.ensures.below,
-  c.in-Held.is ∙ ap Held (row_is c.in-Held.row c.args.relationship c.args.from c.args.to (sym c.if-joins.ensures)),
-)
+pub returns-in_err-row : goal.returns-in_err-row
+returns-in_err-row c =
+    let self = c.args.self.now in
+    let link = c.args.link in
+    let at = c.in_ok-place.ensures (ends link.relationship link.from link.to) (λ place answer e. search rules) in
+    let none : row_in c.in_ok-place.here ≡ None = search rules in
+    let free = ends_free link.relationship link.from link.to _ at.0.passes (ap row_in (sym at.1) ∙ none) in
+    let absent = not_met self.places self.whole self.reached link.relationship link.from link.to at.0.steps (λ i l. ends_past link.relationship link.from link.to _ (at.0.before i l))
+    (inl (ap (λ p. is_free (place_at self.places p)) (sym at.0.here) ∙ free)) in
+    search (rules, absent)
 
 pub returns : goal.returns
 returns c =
     let self = c.args.self.now in
-    not_met self.places self.whole self.reached c.args.relationship c.args.from c.args.to c.loop-k.k c.loop-k.invariant (inr c.loop-k-test.false)
+    let link = c.args.link in
+    let at = c.in_ok-place.ensures (ends link.relationship link.from link.to) (λ place answer e. search rules) in
+    let held : row_in c.in_ok-place.here ≡ Some c.in_ok-row.row = search rules in
+    (first_below at.0, ends_held link.relationship link.from link.to (place_at self.places c.in_ok-place.place) c.in_ok-row.row at.0.passes (ap row_in (sym at.1) ∙ held))

@@ -1,6 +1,11 @@
-use Rattle.std.proofs.Common.{take}
-use Rattle.pairs.proofs.Gathering.{instances_gathered}
+use Rattle.std.proofs.Common.{subst, rules, filter_map}
+use Rattle.pairs.specs.Gathering.{instance_from, Gathered}
+use Rattle.pairs.proofs.Told.{instances_gathered}
 use Rattle.row_list.proofs.RowListPairTable.instances.Goals as goal
 
 pub returns : goal.returns
-returns c = instances_gathered c.args.relationship c.args.from (take c.args.self.now.count c.args.self.now.items) c.gathered.result c.args.self.now.differ c.gathered.ensures
+returns c =
+    let self = c.args.self.now in
+    let told = instance_from c.args.relationship c.args.from in
+    instances_gathered c.args.relationship c.args.from self.rows.items c.gathered.result self.differ self.little
+    (subst (λ rows. Gathered (filter_map told rows) c.gathered.result) c.deref.ensures.0 (c.gathered.ensures told (λ item answer e. search rules)))

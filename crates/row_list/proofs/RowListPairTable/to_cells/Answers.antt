@@ -1,6 +1,11 @@
-use Rattle.std.proofs.Common.{take}
-use Rattle.pairs.proofs.Gathering.{to_cells_gathered}
+use Rattle.std.proofs.Common.{subst, rules, filter_map}
+use Rattle.pairs.specs.Gathering.{to_from, Gathered}
+use Rattle.pairs.proofs.Told.{to_cells_gathered}
 use Rattle.row_list.proofs.RowListPairTable.to_cells.Goals as goal
 
 pub returns : goal.returns
-returns c = to_cells_gathered c.args.relationship c.args.from (take c.args.self.now.count c.args.self.now.items) c.gathered.result c.gathered.ensures
+returns c =
+    let self = c.args.self.now in
+    let told = to_from c.args.relationship c.args.from in
+    to_cells_gathered c.args.relationship c.args.from self.rows.items c.gathered.result self.little
+    (subst (λ rows. Gathered (filter_map told rows) c.gathered.result) c.deref.ensures.0 (c.gathered.ensures told (λ item answer e. search rules)))

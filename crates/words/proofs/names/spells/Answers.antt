@@ -1,4 +1,4 @@
-use Rattle.std.proofs.Common.{◌≡◌, ℕ, suc, ◌+◌, ◌<◌, Bool, true, false, cond, ◌&&◌, List, [], ◌∷◌, length, get_or, take, drop, sym, refl, ap, ◌∙◌, arith, drop-cons}
+use Rattle.std.proofs.Common.{◌≡◌, ℕ, suc, ◌+◌, ◌<◌, Bool, true, false, cond, ◌&&◌, List, [], ◌∷◌, length, get_or, take, drop, sym, refl, ap, ◌∙◌, arith, drop-cons, rules}
 use Rattle.std.specs.List.{prefix_len}
 use Rattle.std.specs.Str.{bytes_eq}
 use Rattle.std.proofs.lemmas.Bool.{ne_eqb}
@@ -19,5 +19,9 @@ begins_apart text [] p h k ne = absurd (omega arith)
 begins_apart text (b ∷ bs) p h k ne =
     rw (drop-cons text p 0 h) (apart (name_byte (get_or text p 0)) (prefix_len name_byte (drop (suc p) text)) (get_or text p 0) b (drop (suc p) text) bs ne)
 
-pub returns-then-text-place : goal.returns-then-text-place
-returns-then-text-place c = begins_apart _ _ _ (omega arith) (omega arith) (omega arith)
+pub returns-in-Some-Some : goal.returns-in-Some-Some
+returns-in-Some-Some c =
+    let there : c.args.place < length c.args.text.now = search rules in
+    let some : 0 < length c.args.bytes.now = search rules in
+    let differs : get_or c.args.text.now c.args.place 0 ≡ get_or c.args.bytes.now 0 0 → ⊥ = search rules in
+    begins_apart _ _ _ there some differs

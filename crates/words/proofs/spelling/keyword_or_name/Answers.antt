@@ -1,20 +1,19 @@
-use Rattle.std.proofs.Common.{eqb, ltb, sym, ◌∙◌, arith}
-use Rattle.std.proofs.lemmas.Bool.{eq-eqb, lt-ltb}
-use Rattle.words.specs.Spelling.{keywords}
-use Rattle.words.proofs.Keywords.{by_size}
+use Rattle.std.proofs.Common.{◌≡◌, ℕ, List, codes, sym, ap, rules}
+use Rattle.std.proofs.lemmas.Slice.Eq.{text_from_reads}
+use Rattle.words.specs.Spelling.{among, keywords}
 use Rattle.words.proofs.spelling.keyword_or_name.Goals as goal
 
-pub returns-in-0-to-1 : goal.returns-in-0-to-1
-returns-in-0-to-1 c = sym (by_size (λ n. ltb n 2) keywords c.args.bytes.now (lt-ltb _ _ (omega arith)))
+spelled : (s p : List ℕ) → s ≡ p → among keywords p ≡ among keywords s
+spelled s p e = ap (among keywords) (sym e)
 
-pub returns-in-2 : goal.returns-in-2
-returns-in-2 c = c.keyword_of_two.ensures ∙ sym (by_size (eqb 2) keywords c.args.bytes.now (eq-eqb _ _ (omega arith)))
+pub returns-in-return : goal.returns-in-return
+returns-in-return c = spelled c.args.bytes.now (codes "return") (search (rules, text_from_reads))
 
-pub returns-in-3 : goal.returns-in-3
-returns-in-3 c = c.keyword_of_three.ensures ∙ sym (by_size (eqb 3) keywords c.args.bytes.now (eq-eqb _ _ (omega arith)))
+pub returns-in-extends : goal.returns-in-extends
+returns-in-extends c = spelled c.args.bytes.now (codes "extends") (search (rules, text_from_reads))
 
-pub returns-in-4 : goal.returns-in-4
-returns-in-4 c = c.keyword_of_four.ensures ∙ sym (by_size (eqb 4) keywords c.args.bytes.now (eq-eqb _ _ (omega arith)))
+pub returns-in-boolean : goal.returns-in-boolean
+returns-in-boolean c = spelled c.args.bytes.now (codes "boolean") (search (rules, text_from_reads))
 
-pub returns-in_default : goal.returns-in_default
-returns-in_default c = c.keyword_of_more.ensures ∙ sym (by_size (ltb 4) keywords c.args.bytes.now (lt-ltb _ _ (omega arith)))
+pub returns-in-relationship : goal.returns-in-relationship
+returns-in-relationship c = spelled c.args.bytes.now (codes "relationship") (search (rules, text_from_reads))

@@ -6,10 +6,7 @@ use Rattle.words.proofs.survey.survey.Given as goal
 
 abbrev pub invariant-loop-word : goal.invariant-loop-word
 invariant-loop-word l =
-    (conclude l.nesting l.words (unread l.cursor) ≡ conclude (nesting 0 0 None) 0 (words l.text))
-    × (l.words + length (unread l.cursor) ≡ length (words l.text))
+    (conclude l.nesting l.words (unread l.word-iterator) ≡ conclude (nesting 0 0 None) 0 (words l.text))
+    × (l.words + length (unread l.word-iterator) ≡ length (words l.text))
     × (l.nesting.depth ≤ l.words)
     × (l.nesting.depth ≤ l.nesting.most)
-
-abbrev pub decreases-loop-word : goal.decreases-loop-word
-decreases-loop-word l = length (unread l.cursor)

@@ -37,7 +37,8 @@ abbrev pub invariant-item-loop-self : goal.invariant-item-loop-self
 invariant-item-loop-self g l =
     (l.self.end ≡ l.initial.self.end)
     × (length (rest l.self) ≤ length (rest l.initial.self))
-    × ((s : Parser) (k : g.row.S.Denot) → Finds g.S.Sink.after s k l.place l.initial.found l.initial.self l.initial.sink → Finds g.S.Sink.after s k l.place l.found l.self l.sink)
+    × (l.item.place ≡ l.initial.item.place)
+    × ((s : Parser) (k : g.row.S.Denot) → Finds g.S.Sink.after s k l.item.place l.initial.item.found l.initial.self l.initial.sink → Finds g.S.Sink.after s k l.item.place l.item.found l.self l.sink)
 
 abbrev pub decreases-item-loop-self : goal.decreases-item-loop-self
 decreases-item-loop-self g l = length (rest l.self)

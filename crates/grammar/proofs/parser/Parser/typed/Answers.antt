@@ -1,26 +1,29 @@
-use Rattle.std.proofs.Common.{List, sym, refl}
-use Rattle.std.proofs.lemmas.Result.{err_from_is_err_and}
+use Rattle.std.proofs.Common.{◌≡◌, false, Some, rules, refl}
 use Rattle.words.specs.declared.kind.Kind.TheVariants as kind
-use Rattle.grammar.specs.Machine as machine
-use Rattle.grammar.specs.Machine.{Sym, word, start, stmts, body, decls, members, whole, acting}
-use Rattle.grammar.specs.Told.{rest}
-use Rattle.grammar.proofs.Bodies
-use Rattle.grammar.proofs.Expected
-use Rattle.grammar.proofs.Passing.{took, seen_first, unseen_first}
+use Rattle.grammar.specs.Machine.{typed, word}
+use Rattle.grammar.specs.Told.{rest, kind_at, seen}
+use Rattle.grammar.proofs.Bodies.{boolean_read, row_read}
+use Rattle.grammar.proofs.Expected.{typed_name}
+use Rattle.grammar.proofs.Failing.{failed}
+use Rattle.grammar.proofs.Passing.{took, unseen_first}
 use Rattle.grammar.proofs.Steps.{fails_after}
 use Rattle.grammar.proofs.parser.Parser.typed.Goals as goal
 
-pub returns-then-sees : goal.returns-then-sees
-returns-then-sees c = Bodies.boolean_read (took kind.Boolean c.args.self.now _ (seen_first kind.Boolean _ (sym c.if-sees.ensures)) c.advance.ensures)
+pub returns-in-Some-Boolean : goal.returns-in-Some-Boolean
+returns-in-Some-Boolean c =
+    let k : kind_at (rest c.args.self.now) ≡ Some kind.Boolean = search rules in
+    boolean_read (took kind.Boolean c.args.self.now _ k c.advance.ensures)
 
-pub set_type-requires : goal.set_type-requires
-set_type-requires c = seen_first kind.Set _ (sym c.if-sees-2.ensures)
+pub returns-in_err-name-in_default : goal.returns-in_err-name-in_default
+returns-in_err-name-in_default c =
+    let ws = rest c.args.self.now in
+    let b : seen kind.Boolean ws ≡ false = search rules in
+    let s : seen kind.Set ws ≡ false = search rules in
+    rw (failed c.from_residual.result c.from_residual.ensures.1) (fails_after typed (word kind.Name) (λ α. α) (λ α. typed_name α ws (unseen_first kind.Boolean _ b) (unseen_first kind.Set _ s)) refl c.in_err-name-in_default.ensures)
 
-pub returns-in_err-name : goal.returns-in_err-name
-returns-in_err-name c =
-    let p = c.args.self.now in
-    let lead = λ (α : List Sym). Expected.typed_name α (rest p) (unseen_first kind.Boolean _ (sym c.if-sees.ensures)) (unseen_first kind.Set _ (sym c.if-sees-2.ensures)) in
-    let z = err_from_is_err_and c.from_residual.result c.from_residual.ensures.1 in rw (z.1, z.2) (fails_after machine.typed (word kind.Name) (λ α. α) lead refl c.in_err-name.ensures)
-
-pub returns-in_ok-name : goal.returns-in_ok-name
-returns-in_ok-name c = Bodies.row_read (unseen_first kind.Boolean _ (sym c.if-sees.ensures)) (unseen_first kind.Set _ (sym c.if-sees-2.ensures)) c.in_ok-name.ensures
+pub returns-in_ok-name-in_default : goal.returns-in_ok-name-in_default
+returns-in_ok-name-in_default c =
+    let ws = rest c.args.self.now in
+    let b : seen kind.Boolean ws ≡ false = search rules in
+    let s : seen kind.Set ws ≡ false = search rules in
+    row_read (unseen_first kind.Boolean _ b) (unseen_first kind.Set _ s) c.in_ok-name-in_default.ensures

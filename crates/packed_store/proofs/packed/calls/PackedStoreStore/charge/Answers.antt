@@ -1,6 +1,0 @@
-use Rattle.packed_store.specs.Packed.{packed_model}
-use Rattle.packed_store.proofs.packed.calls.PackedStoreStore.charge.Goals as goal
-
-pub returns : goal.returns
-unfolding packed_model
-returns c = c.min.ensures

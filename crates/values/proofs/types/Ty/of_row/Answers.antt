@@ -1,6 +1,0 @@
-use Rattle.std.proofs.Common.{refl}
-use Rattle.values.proofs.SameType.{ty_same}
-use Rattle.values.proofs.types.Ty.of_row.Goals as goal
-
-pub returns : goal.returns
-returns c = ty_same _ _ refl refl
