@@ -1,9 +1,9 @@
 -- Room for a series of cells, in any store.
-use Rattle.std.proofs.Common.{◌≡◌, ℕ, ◌+◌, ◌≤◌, true, leb, length, Ok, sym, ap, ◌∙◌, arith}
+use Rattle.std.proofs.Common.{◌≡◌, ℕ, ◌+◌, ◌<◌, ◌≤◌, true, leb, length, Ok, sym, ap, ◌∙◌, arith}
 use lib.ListN.{length-replicate}
 use Rattle.std.proofs.lemmas.List.{length_push}
 use Rattle.std.proofs.lemmas.List.Sums.{sum_by_push}
-use Rattle.std.proofs.lemmas.Bool.{and_parts, and_from, leb-true, le-leb}
+use Rattle.std.proofs.lemmas.Bool.{and_parts, and_from, leb-true, le-leb, lt-leb}
 use Rattle.values.specs.declared.value.Value.TheVariants.{Null}
 use Rattle.store.specs.declared.cell.Head.{Head}
 use Rattle.store.specs.Frames.{RoomLasts, has_room}
@@ -34,3 +34,15 @@ room_lasts m =
           let b = length_push m.cells (new_cell h n) in
           room_from (after_make m h n (Ok c)) k s (omega arith) (omega arith);
     }
+
+-- the test, one limit after the other
+pub room_then : (m : Model) (k s a b x y : ℕ) → a ≡ length m.cells → b ≡ m.cell_limit → x ≡ slots_of m → y ≡ m.slot_limit → a + k ≤ b → leb (x + s) y ≡ has_room m k s
+unfolding has_room
+room_then m k s a b x y e f g h l = let t = le-leb (length m.cells + k) m.cell_limit (omega arith) in simp (t, g, h)
+
+pub room_else : (m : Model) (k s a b : ℕ) → a ≡ length m.cells → b ≡ m.cell_limit → b < a + k → leb (a + k) b ≡ has_room m k s
+unfolding has_room
+room_else m k s a b e f l =
+    let t = lt-leb (length m.cells + k) m.cell_limit (omega arith) in
+    let u = lt-leb (a + k) b l in
+    simp (t, u)
