@@ -1,5 +1,5 @@
 -- What the calls answer, from the place of a cell.
-use Rattle.std.specs.Prelude.{◌≡◌, ℕ, length, map, set, None, Some, Option, refl}
+use Rattle.std.specs.Prelude.{◌≡◌, ℕ, length, map, set, take, None, Some, Option, refl}
 use Rattle.std.proofs.Common.{ap, sym, ◌∙◌}
 use Rattle.std.specs.List.{slice_get}
 use Rattle.std.specs.Option.{option_map}
@@ -12,43 +12,43 @@ use Rattle.store.proofs.Calls.{changed_set}
 use Rattle.even_store.specs.declared.even.Place.{Place}
 use Rattle.even_store.specs.declared.even.EvenStore.{EvenStore}
 use Rattle.even_store.specs.Even.{placed, even_model}
-use Rattle.even_store.specs.EvenPlaces.{used_slots}
+use Rattle.even_store.specs.EvenPlaces.{count_of, used_slots}
 
 module _ (s : EvenStore) (i : ℕ) where
-  pub cell_at : slice_get (even_model s).cells i ≡ option_map placed (slice_get s.places.items i)
-  cell_at = slice_get-map placed s.places.items i
+  pub cell_at : slice_get (even_model s).cells i ≡ option_map placed (slice_get (take s.used s.places) i)
+  cell_at = slice_get-map placed (take s.used s.places) i
 
   -- the calls that answer for a cell
-  pub head_of : head_at (even_model s) i ≡ option_map (λ (p : Place). p.head) (slice_get s.places.items i)
+  pub head_of : head_at (even_model s) i ≡ option_map (λ (p : Place). p.head) (slice_get (take s.used s.places) i)
   unfolding head_at
-  head_of = ap head_in cell_at ∙ go (slice_get s.places.items i)
+  head_of = ap head_in cell_at ∙ go (slice_get (take s.used s.places) i)
     where
       go : (o : Option Place) → head_in (option_map placed o) ≡ option_map (λ (p : Place). p.head) o
       go None = refl
       go (Some p) = refl
 
-  pub count_at : fields_at (even_model s) i ≡ option_map (λ (p : Place). length p.fields.items) (slice_get s.places.items i)
+  pub count_at : fields_at (even_model s) i ≡ option_map (λ (p : Place). p.count) (slice_get (take s.used s.places) i)
   unfolding fields_at
-  count_at = ap fields_in cell_at ∙ go (slice_get s.places.items i)
+  count_at = ap fields_in cell_at ∙ go (slice_get (take s.used s.places) i)
     where
-      go : (o : Option Place) → fields_in (option_map placed o) ≡ option_map (λ (p : Place). length p.fields.items) o
+      go : (o : Option Place) → fields_in (option_map placed o) ≡ option_map (λ (p : Place). p.count) o
       go None = refl
-      go (Some p) = refl
+      go (Some p) = ap Some (count_of p)
 
-  pub field_at_lem : (f : ℕ) → field_at (even_model s) i f ≡ field_in (option_map placed (slice_get s.places.items i)) f
+  pub field_at_lem : (f : ℕ) → field_at (even_model s) i f ≡ field_in (option_map placed (slice_get (take s.used s.places) i)) f
   unfolding field_at
   field_at_lem f = ap (λ o. field_in o f) cell_at
 
 pub ruleset answers = (gets, head_of, count_at, field_at_lem, used_slots)
 
 -- one place is set, to the same cell or to one with one field changed
-pub cells_kept : (s : EvenStore) (i : ℕ) (p q : Place) → slice_get s.places.items i ≡ Some p → placed q ≡ placed p
-    → map placed (set s.places.items i q) ≡ (even_model s).cells
+pub cells_kept : (s : EvenStore) (i : ℕ) (p q : Place) → slice_get (take s.used s.places) i ≡ Some p → placed q ≡ placed p
+    → map placed (set (take s.used s.places) i q) ≡ (even_model s).cells
 cells_kept s i p q there same =
-    map-set_same placed s.places.items i q p (same ∙ ap placed (sym (get_or_from_slice_get s.places.items i p p there)))
+    map-set_same placed (take s.used s.places) i q p (same ∙ ap placed (sym (get_or_from_slice_get (take s.used s.places) i p p there)))
 
-pub cells_changed : (s : EvenStore) (i f : ℕ) (v : Value) (p q : Place) → slice_get s.places.items i ≡ Some p → placed q ≡ written (placed p) f v
-    → map placed (set s.places.items i q) ≡ changed (even_model s).cells i f v
+pub cells_changed : (s : EvenStore) (i f : ℕ) (v : Value) (p q : Place) → slice_get (take s.used s.places) i ≡ Some p → placed q ≡ written (placed p) f v
+    → map placed (set (take s.used s.places) i q) ≡ changed (even_model s).cells i f v
 cells_changed s i f v p q there same =
-    map-set placed s.places.items i q ∙ ap (set (even_model s).cells i) same
+    map-set placed (take s.used s.places) i q ∙ ap (set (even_model s).cells i) same
     ∙ sym (changed_set (even_model s).cells i f v (placed p) (cell_at s i ∙ ap (option_map placed) there))

@@ -1,5 +1,5 @@
 -- What the even store means.
-use Rattle.std.specs.Prelude.{List, map}
+use Rattle.std.specs.Prelude.{List, map, take}
 use Rattle.even_store.specs.declared.even.Place.{Place}
 use Rattle.even_store.specs.declared.even.EvenStore.{EvenStore}
 use Rattle.store.specs.Model.{Model, StoredCell}
@@ -9,7 +9,7 @@ abbrev pub even : List StoredCell → Model
 even cs = record { cells = cs; cell_limit = 128; slot_limit = 1024; charge = λ n. 8 }
 
 abbrev pub placed : Place → StoredCell
-placed p = record { head = p.head; fields = p.fields.items }
+placed p = record { head = p.head; fields = take p.count p.values }
 
 abbrev pub even_model : EvenStore → Model
-even_model s = even (map placed s.places.items)
+even_model s = even (map placed (take s.used s.places))

@@ -1,10 +1,9 @@
-ghost use Rattle.std.specs.Prelude.{◌≡◌, ◌≤◌, []};
+ghost use Rattle.std.specs.Prelude.{◌≡◌, ◌≤◌, [], take};
 ghost use Rattle.even_store.specs.Even.{even, even_model, placed};
 ghost use Rattle.store.specs.Model.{new_cell};
 ghost use Rattle.even_store.specs.EvenPlaces.{even_lawful};
 
 use super::{EvenStore, Place};
-use arrayvec::ArrayVec;
 use store::cell::{Absent, Head, MakeRefusal};
 use store::{CELL_LIMIT, FIELD_LIMIT, Store};
 use values::value::Value;
@@ -18,18 +17,18 @@ impl Place {
         requires { fields ≤ 8 }
         ensures { placed result ≡ new_cell head fields }
     {
-        let mut nulls = ArrayVec::from([Value::Null; FIELD_LIMIT]);
-        nulls.truncate(fields as usize);
         Place {
             head,
-            fields: nulls,
+            count: fields,
+            values: [Value::Null; FIELD_LIMIT],
         }
     }
-}
 
-impl Default for Place {
-    fn default() -> Place {
-        Place::new(Head::Object { class: 0 }, 0)
+    // The fields that the cell has.
+    fn fields(&self) -> &[Value]
+        ensures { result.now ≡ take self.now.count self.now.values }
+    {
+        &self.values[..self.count as usize]
     }
 }
 
@@ -40,47 +39,50 @@ impl Store for EvenStore {
     ghost lawful = { even_lawful };
 
     fn clear(&mut self) {
-        self.places.clear();
+        self.used = 0;
     }
 
     fn make(&mut self, head: Head, fields: u8) -> Result<u8, MakeRefusal> {
         let cell = self.next_cell(fields)?;
-        self.places.push(Place::new(head, fields));
+        self.places[self.used] = Place::new(head, fields);
+        self.used += 1;
         Ok(cell)
     }
 
     fn put(&mut self, cell: u8, field: u8, value: Value) -> Result<(), Absent> {
-        let place = self.places.get_mut(cell as usize).ok_or(Absent::Cell)?;
-        let held = place.fields.get_mut(field as usize).ok_or(Absent::Field)?;
-        *held = value;
+        if cell as usize >= self.used {
+            return Err(Absent::Cell);
+        }
+        if field >= self.places[cell as usize].count {
+            return Err(Absent::Field);
+        }
+        self.places[cell as usize].values[field as usize] = value;
         Ok(())
     }
 
     fn head(&self, cell: u8) -> Option<Head> {
-        self.places.get(cell as usize).map(|place| place.head)
+        self.taken().get(cell as usize).map(|place| place.head)
     }
 
     fn fields(&self, cell: u8) -> Option<u8> {
-        self.places
-            .get(cell as usize)
-            .map(|place| place.fields.len() as u8)
+        self.taken().get(cell as usize).map(|place| place.count)
     }
 
     fn value(&self, cell: u8, field: u8) -> Result<Value, Absent> {
-        let place = self.places.get(cell as usize).ok_or(Absent::Cell)?;
+        let place = self.taken().get(cell as usize).ok_or(Absent::Cell)?;
         place
-            .fields
+            .fields()
             .get(field as usize)
             .copied()
             .ok_or(Absent::Field)
     }
 
     fn cells(&self) -> u8 {
-        self.places.len() as u8
+        self.used as u8
     }
 
     fn slots(&self) -> u16 {
-        (self.places.len() * CHARGE) as u16
+        (self.used * CHARGE) as u16
     }
 
     fn cell_limit(&self) -> u8 {
@@ -102,7 +104,15 @@ impl EvenStore {
         ensures { even_model result ≡ even [] }
     {
         EvenStore {
-            places: ArrayVec::new(),
+            places: [Place::new(Head::Object { class: 0 }, 0); CELL_LIMIT],
+            used: 0,
         }
+    }
+
+    // The places of the cells.
+    fn taken(&self) -> &[Place]
+        ensures { result.now ≡ take self.now.used self.now.places }
+    {
+        &self.places[..self.used]
     }
 }
