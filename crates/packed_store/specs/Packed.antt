@@ -1,5 +1,5 @@
 -- What the packed store means.
-use Rattle.std.specs.Prelude.{◌≡◌, ℕ, ◌+◌, ◌<◌, min, List, [], ◌∷◌, length, take, drop, slice_index_or}
+use Rattle.std.specs.Prelude.{◌≡◌, ℕ, ◌+◌, ◌<◌, min, List, [], ◌∷◌, take, drop, slice_index_or}
 use Rattle.values.specs.declared.value.Value.{Value}
 use Rattle.packed_store.specs.declared.packed.Span.{Span}
 use Rattle.packed_store.specs.declared.packed.PackedStore.{PackedStore}
@@ -15,10 +15,10 @@ laid [] vs = []
 laid (s ∷ ss) vs = record { head = s.head; fields = take s.count vs } ∷ laid ss (drop s.count vs)
 
 abbrev pub packed_model : PackedStore → Model
-packed_model s = packed (laid s.spans.items s.slots.items)
+packed_model s = packed (laid (take s.used s.spans) s.slots)
 
 -- n is the slot of field f of cell c
 pub record Slot (s : PackedStore) (c f n : ℕ) : Type 0 where
-  pub used : c < length s.spans.items
-  pub counted : (d : Span) → f < (slice_index_or s.spans.items c d).count
-  pub is : (d : Span) → n ≡ (slice_index_or s.spans.items c d).start + f
+  pub used : c < s.used
+  pub counted : (d : Span) → f < (slice_index_or s.spans c d).count
+  pub is : (d : Span) → n ≡ (slice_index_or s.spans c d).start + f

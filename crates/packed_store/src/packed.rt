@@ -1,7 +1,7 @@
-ghost use Rattle.std.specs.Prelude.{◌≡◌, ℕ, ◌<◌, ◌≤◌, All, length, take, sum_by, slice_index_or};
+ghost use Rattle.std.specs.Prelude.{◌≡◌, ℕ, ◌-◌, ◌<◌, ◌≤◌, length, take, drop, replicate, sum_by, slice_index_or};
+ghost use Rattle.values.specs.declared.value.Value.TheVariants.{Null};
 ghost use Rattle.packed_store.specs.declared.packed.Span.{Span};
 
-use arrayvec::ArrayVec;
 use store::CELL_LIMIT;
 use store::cell::Head;
 use values::value::Value;
@@ -17,16 +17,24 @@ struct Span {
     count: u8,
 }
 
-// A store of 128 cells that charges n slots for n fields, of 512. The cells' slots stand one after another.
+// A store of 128 cells that charges n slots for n fields, of 512. The cells' slots stand one after another, and
+// those that no cell has are null.
+// Spans and slots are arrays with a count beside them and no `ArrayVec`, so that a cell is made without writing its
+// fields: unused slots are null.
 #[derive(Drop)]
 pub struct PackedStore {
-    spans: ArrayVec<Span, CELL_LIMIT>,
-    slots: ArrayVec<Value, SLOT_LIMIT>,
-    ghost few: { length spans.items ≤ 128 },
-    ghost within: { length slots.items ≤ 512 },
-    ghost sum: { length slots.items ≡ sum_by (λ (s : Span). s.count) spans.items },
-    ghost small: { All (λ (s : Span). s.count ≤ 8) spans.items },
-    ghost begins: { (k : ℕ) (d : Span) → k < length spans.items → (slice_index_or spans.items k d).start ≡ sum_by (λ (s : Span). s.count) (take k spans.items) },
+    spans: [Span; CELL_LIMIT],
+    used: usize,
+    slots: [Value; SLOT_LIMIT],
+    filled: usize,
+    ghost whole: { length spans ≡ 128 },
+    ghost few: { used ≤ 128 },
+    ghost room: { length slots ≡ 512 },
+    ghost within: { filled ≤ 512 },
+    ghost sum: { filled ≡ sum_by (λ (s : Span). s.count) (take used spans) },
+    ghost small: { (k : ℕ) (d : Span) → k < used → (slice_index_or spans k d).count ≤ 8 },
+    ghost begins: { (k : ℕ) (d : Span) → k < used → (slice_index_or spans k d).start ≡ sum_by (λ (s : Span). s.count) (take k spans) },
+    ghost blank: { drop filled slots ≡ replicate (512 - filled) Null },
 }
 
 pub mod calls;
