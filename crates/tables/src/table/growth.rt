@@ -2,32 +2,43 @@ ghost use Rattle.std.specs.Prelude.{◌≡◌, []};
 ghost use Rattle.tables.specs.Listed.{listed, pushed, shortened};
 
 use super::Table;
-use arrayvec::ArrayVec;
 
 impl<T: Copy + Default, const N: usize> Table<T, N> {
     // An empty table.
-    #[tactic(auto, unfolding(crate::specs::Listed::listed))]
     pub fn new() -> Table<T, N>
         ensures { listed result ≡ [] }
     {
+        Table::with_filler(T::default())
+    }
+}
+
+impl<T: Copy, const N: usize> Table<T, N> {
+    // An empty table; `fill` stands in the memory that is not used yet.
+    pub fn with_filler(fill: T) -> Table<T, N>
+        ensures { listed result ≡ [] }
+    {
         Table {
-            items: ArrayVec::new(),
+            items: [fill; N],
+            len: 0,
         }
     }
 
     // Adds an item at the end; a full table stays as it is.
-    #[tactic(auto, unfolding(crate::specs::Listed::listed, crate::specs::Listed::pushed))]
     pub fn push(&mut self, x: T)
         ensures { self.new ≡ pushed self.old x }
     {
-        let _ = self.items.try_push(x);
+        if self.len < N {
+            self.items[self.len] = x;
+            self.len += 1;
+        }
     }
 
     // Takes the last item off; an empty table stays as it is.
-    #[tactic(auto, unfolding(crate::specs::Listed::listed, crate::specs::Listed::shortened))]
     pub fn shorten(&mut self)
         ensures { self.new ≡ shortened self.old }
     {
-        let _ = self.items.pop();
+        if self.len > 0 {
+            self.len -= 1;
+        }
     }
 }

@@ -10,18 +10,16 @@ impl<T: Copy, const N: usize> Table<T, N> {
     pub fn as_slice(&self) -> &[T]
         ensures { result.now ≡ listed self.now }
     {
-        self.items.as_slice()
+        &self.items[..self.len]
     }
 
-    #[tactic(auto, unfolding(crate::specs::Listed::listed))]
     pub fn len(&self) -> usize
         ensures { result ≡ length (listed self.now) }
     {
-        self.items.len()
+        self.len
     }
 
     // The item at place i, if there is one.
-    #[tactic(auto, unfolding(crate::specs::Listed::listed))]
     pub fn get(&self, i: usize) -> Option<T>
         ensures { result ≡ slice_get (listed self.now) i }
     {
@@ -29,7 +27,6 @@ impl<T: Copy, const N: usize> Table<T, N> {
     }
 
     // The item that was added last, if there is one.
-    #[tactic(auto, unfolding(crate::specs::Listed::listed))]
     pub fn last(&self) -> Option<T>
         ensures { result ≡ newest (listed self.now) }
     {
