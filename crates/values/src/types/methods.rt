@@ -1,10 +1,28 @@
-ghost use Rattle.std.specs.Prelude.{◌≡◌};
+ghost use Rattle.std.specs.Prelude.{◌≡◌, Decides};
 ghost use Rattle.values.specs.Admits.{Initially, initial_of};
 ghost use Rattle.values.specs.Types.{boolean, null_type, row_type, set_type};
 
 use super::{CellRow, Kind, Lineage, Ty};
 use crate::value::Value;
 use cells::CellSet;
+
+impl Lineage {
+    // Whether the two are the same line: what the derived `==` promises, as a clause.
+    pub fn same(self, lineage: Lineage) -> bool
+        ensures { Decides result (self ≡ lineage) }
+    {
+        self == lineage
+    }
+}
+
+impl Kind {
+    // Whether the two are the same kind: what the derived `==` promises, as a clause.
+    pub fn same(self, kind: Kind) -> bool
+        ensures { Decides result (self ≡ kind) }
+    {
+        self == kind
+    }
+}
 
 impl CellRow {
     // A row of a line, by its number.
@@ -70,6 +88,14 @@ impl Ty {
         ensures { result ≡ self.row }
     {
         self.row
+    }
+
+    // Whether the two are the same type. The derived `==` tells their fields alone, which for a type says as much.
+    #[tactic(auto, using(crate::proofs::SameType::ty_told))]
+    pub fn same(self, t: Ty) -> bool
+        ensures { Decides result (self ≡ t) }
+    {
+        self == t
     }
 
     // What a variable or field of this type begins with: false, null or the empty set.
