@@ -39,6 +39,26 @@ stuck_from (w ∷ ws) rest α e = go (step α w.kind) refl e (λ β f. stuck_fro
     go None f e h = let g = some_inj (w ∷ ws) rest e in ([], g, subst (Stuck α []) g f)
     go (Some β) f e h = let r = h β e in (w ∷ r.0, ap (λ x. w ∷ x) r.1, (β, f, r.2))
 
+-- words that are all let pass are accepted
+pub accepted_from : (ws : List Token) (α : List Sym) → runs α ws ≡ None → Accepts α ws
+unfolding runs
+accepted_from [] α e = go (ends α) refl e
+  where
+    go : (b : Bool) → ends α ≡ b → ◌≡◌ {A = Option (List Token)} (cond b None (Some [])) None → ends α ≡ true
+    go true f e = f
+    go false f e = absurd (none-some {A = List Token} [] (sym e))
+accepted_from (w ∷ ws) α e = go (step α w.kind) refl e (λ β f. accepted_from ws β f)
+  where
+    go : (o : Option (List Sym)) → step α w.kind ≡ o → either o (Some (w ∷ ws)) (λ β. runs β ws) ≡ None
+        → ((β : List Sym) → runs β ws ≡ None → Accepts β ws) → Accepts α (w ∷ ws)
+    go None f e h = absurd (none-some (w ∷ ws) (sym e))
+    go (Some β) f e h = (β, f, h β e)
+
+pub passes : (ws : List Token) (α : List Sym) → Accepts α ws → runs α ws ≡ None
+unfolding runs
+passes [] α a = simp a
+passes (w ∷ ws) α a = let e = a.1 in simp e (passes ws a.0 a.2)
+
 -- what is stuck is no beginning of what is accepted
 pub none_such : (before rest vs : List Token) (α : List Sym) → Stuck α before rest → Accepts α vs → Begins (map Some before ++ next rest ∷ []) (marked vs) → ⊥
 none_such [] [] [] α s a b = false≢true (sym s ∙ a)
