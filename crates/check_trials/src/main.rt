@@ -59,7 +59,8 @@ fn main(rt: HostRuntime) -> anyhow::Result<()> {
             .split_once(' ')
             .context("a line without a number of entries")?;
         let text = decode(heap, spelled)?;
-        let mut scratch = vec![in heap; 7u16; entries.parse()?]?;
+        let entries = entries.parse::<u32>()?;
+        let mut scratch = vec![in heap; 7u16; entries as usize]?;
         let verdict = judged(text.as_slice(), scratch.as_mut_slice(), &mut place);
         println!(rt; "{verdict}")?;
     }
