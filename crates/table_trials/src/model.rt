@@ -2,6 +2,11 @@
 use pairs::row::{Link, PutRefusal, Row};
 use std::alloc::{AllocError, Global};
 
+// Whether the row is that of the link, field by field: what is tried is not asked.
+fn joined(row: &Row, link: Link) -> bool {
+    row.relationship == link.relationship && row.from == link.from && row.to == link.to
+}
+
 #[derive(Drop)]
 pub struct Model {
     rows: Vec<Row>,
@@ -27,7 +32,7 @@ impl Model {
     pub(crate) fn find(&self, link: Link) -> Option<u8> {
         self.rows
             .iter()
-            .find(|row| row.link() == link)
+            .find(|row| joined(row, link))
             .map(|row| row.instance)
     }
 
@@ -39,7 +44,12 @@ impl Model {
         if row.from > 127 || row.to > 127 || row.instance > 127 {
             return Err(PutRefusal::BadCell);
         }
-        if let Some(instance) = self.find(row.link()) {
+        let link = Link {
+            relationship: row.relationship,
+            from: row.from,
+            to: row.to,
+        };
+        if let Some(instance) = self.find(link) {
             return Err(PutRefusal::Present(instance));
         }
         if self.rows.len() >= self.limit {
@@ -58,12 +68,14 @@ impl Model {
     }
 
     pub(crate) fn drop_row(&mut self, link: Link) -> Option<u8> {
-        let place = self.rows.iter().position(|row| row.link() == link)?;
+        let place = self.rows.iter().position(|row| joined(row, link))?;
         Some(self.rows.remove(place).instance)
     }
 
     // Whether a row of the relationship from the cell has the instance.
     pub(crate) fn has_instance(&self, relationship: u8, from: u8, instance: u8) -> bool {
-        self.rows.iter().any(|row| row.leaves(relationship, from) && row.instance == instance)
+        self.rows.iter().any(|row| row.relationship == relationship
+            && row.from == from
+            && row.instance == instance)
     }
 }

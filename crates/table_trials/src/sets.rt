@@ -55,8 +55,8 @@ fn renumbers(set: CellSet, members: &Members, dice: &mut Dice) -> bool {
 fn joins(after: CellSet, before: CellSet, cell: u8) -> bool {
     let both = after.union(before);
     let nothing = before.contains(cell) == after.contains(cell);
-    (both == before.with(cell)) == (both.contains(cell) || cell > 127)
-        && (after == before) == nothing
+    both.same_members(before.with(cell)) == (both.contains(cell) || cell > 127)
+        && after.same_members(before) == nothing
 }
 
 // How many of the steps had a wrong set.
