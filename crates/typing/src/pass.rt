@@ -24,11 +24,11 @@ fn type_of(ruling: Option<Ruling>) -> Option<Ty>
     }
 }
 
-// The place, if no rule covers the node there.
-fn fault_place(ruling: Option<Ruling>, place: usize) -> Option<usize>
-    ensures { result ≡ fault_place ruling place }
+// The place of the node, if no rule covers it.
+fn fault_place(ruling: Option<Ruling>, node: Node) -> Option<usize>
+    ensures { result ≡ fault_place ruling node.place }
 {
-    ruling.is_none().then_some(place)
+    ruling.is_none().then_some(node.place)
 }
 
 fn step_of(ruling: Option<Ruling>) -> Step
@@ -102,7 +102,7 @@ impl<'a> Typer<'a> {
             let right = part(scratch, i, node.right);
             let ruling = self.rule(*node, left, right);
             scratch[i] = encode(type_of(ruling));
-            least = lesser_of(least, fault_place(ruling, node.place));
+            least = lesser_of(least, fault_place(ruling, *node));
             steps.push(instruction_for(ruling, *node));
         }
         refused_at(least)
